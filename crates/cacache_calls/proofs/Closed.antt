@@ -1,5 +1,5 @@
 -- Which state leads to which, in one place: every call keeps a property of states that a few moves keep.
-use Rattle.std.proofs.Common.{◌≡◌, ◌+◌, ◌-◌, ◌==◌, ℕ, Bool, true, false, cond, nat_le, List, [], ◌∷◌, ◌++◌, Option, None, Some, Result, Ok, length, take, drop, sym, subst}
+use Rattle.std.proofs.{Common.{arith, ◌≡◌, ◌+◌, ◌-◌, ◌==◌, ℕ, Bool, true, false, cond, nat_le, List, [], ◌∷◌, ◌++◌, Option, None, Some, Result, Ok, length, take, drop, sym, subst}, lemmas.Grind.{common_steps}}
 use Rattle.std.specs.Prelude.{All}
 use Rattle.cacache_core.specs.{declared.errors.{Fault.{Fault}, Error.TheVariants.{IntegrityError, OutOfMemory}, IntegrityFault.TheVariants.{Check}}, Integrity.{actual}, Meeting.{meets}}
 use Rattle.cacache_core.specs.declared.errors.Fault.TheVariants as faults
@@ -29,8 +29,7 @@ abbrev pub AnyAnswer : PlainStep → PlainAnswer → Type 0
 AnyAnswer step a = Unit {0}
 
 any_for : (o : Option PlainStep) (a : PlainAnswer) → GoodFor AnyAnswer o a
-any_for None a = tt
-any_for (Some step) a = tt
+any_for o a = grind (arith, common_steps)
 
 -- ---- the moves, block by block
 
@@ -102,8 +101,7 @@ module _ (Good : PlainStep → PlainAnswer → Type 0) (P : State → Type 0) (K
     leads a next k = go_on_leads P a fails next memory fails_so k
 
     rests : (x : Commit) (file : PlainTemp) (rest : List ℕ) → P (writing x file rest) → P (write_rest x file rest)
-    rests x file [] h = let m = c.commits.moved x file h in moves_on (λ s. P (in_folder x s)) x file m.0 m.1
-    rests x file (b ∷ bs) h = h
+    rests x file rest h = grind (arith, moves_on)
 
     writes : (x : Commit) (file : PlainTemp) (rest : List ℕ) (w : PlainTemp × ℕ) → Brings Good (steps.Write file rest) written_in w → P (writing x file rest) → P (after_write x rest w)
     writes x file rest w b h = cond_leads P (w.1 == 0) (fails faults.WriteZero) (write_rest x w.0 (drop w.1 rest)) (λ _. fails_so faults.WriteZero) (λ _. rests x w.0 (drop w.1 rest) (c.commits.wrote x file rest w b h))
@@ -120,8 +118,7 @@ module _ (Good : PlainStep → PlainAnswer → Type 0) (P : State → Type 0) (K
     appends i n h = let m = c.inserts i h in cond_leads P (nat_le (length (bucket_line i)) n) (recorded i) (fails faults.ShortAppend) (λ _. records P m.1 i m.0) (λ _. fails_so faults.ShortAppend)
 
     unread : (l : Lookup) (fault : Fault) → P (looking l) → P (no_bucket l fault)
-    unread l faults.NotFound h = c.reads.found l None h
-    unread l fault h = fails_so fault
+    unread l fault h = grind (arith, common_steps)
 
     checks : (k : Content) (bytes : List ℕ) → P (reading k) → P (checked k bytes)
     checks k bytes h = cond_leads P (meets k.integrity bytes) (over (Read bytes)) (ends_with (IntegrityError (Check k.integrity (actual k.integrity bytes)))) (λ e. c.reads.met k bytes e h) (λ _. c.reads.unmet k bytes h)
@@ -129,16 +126,13 @@ module _ (Good : PlainStep → PlainAnswer → Type 0) (P : State → Type 0) (K
     -- ---- walks
 
     finishes : (b : Bool) (items : List Item) → K b → P (cond b (over Done) (over (Listed items)))
-    finishes true items h = c.walks.cleared h
-    finishes false items h = c.walks.listed items h
+    finishes b items h = grind (arith, common_steps)
 
     stops : (b : Bool) (items : List Item) → K b → P (cond b (fails faults.TooDeep) (over (Listed items)))
-    stops true items h = fails_so faults.TooDeep
-    stops false items h = c.walks.listed items h
+    stops b items h = grind (arith, common_steps)
 
     leaves : (b : Bool) (level : ℕ) (p : List ℕ) → K b → V (Enter p level) → EachVisit V (leaving b level p)
-    leaves true level p h is = each_leaving V level p (c.walks.left level p h is)
-    leaves false level p h is = tt
+    leaves b level p h is = grind (arith, each_leaving)
 
     gives : (w : Walk) (items : List Item) (next : Walk → State) → K w.clears → ((v : Walk) → K v.clears → P (next v)) → P (give w items next)
     gives w items next h k =
@@ -159,8 +153,7 @@ module _ (Good : PlainStep → PlainAnswer → Type 0) (P : State → Type 0) (K
       missed fault = misses w (walk_on todo) fault h (goes_on todo k)
 
       unlisted : (fault : Fault) → P (unread_bucket w todo fault)
-      unlisted faults.NotFound = goes_on todo k w h
-      unlisted fault = missed fault
+      unlisted fault = grind (arith, goes_on, missed)
 
       enters : (p : List ℕ) (level : ℕ) (names : List Name) → Brings Good (steps.ReadDir p) names_in names → V (Enter p level) → P (entered w p level todo names)
       enters p level names b is =
@@ -175,31 +168,12 @@ module _ (Good : PlainStep → PlainAnswer → Type 0) (P : State → Type 0) (K
       removed a = go_on_leads P (done_in a) (miss w (walk_on todo)) (λ _. walk_on todo w) memory missed (λ _ _. goes_on todo k w h)
 
       visits : (v : Visit) (a : PlainAnswer) → Good (visit_step v) a → V v → P (after_visit w v todo a)
-      visits (Enter p level) a good is =
-          go_on_leads P (names_in a) (miss w (walk_on todo)) (entered w p level todo) memory missed (λ names e. enters p level names (a, good, e) is)
-      visits (ReadBucket p) a good is = go_on_leads P (bytes_in a) (unread_bucket w todo) (listed w todo) memory unlisted (λ bytes _. gives w (items_in bytes) (walk_on todo) h (goes_on todo k))
-      visits v a good is = removed a
+      visits v a good is = grind (arith, go_on_leads, missed, enters, unlisted, gives, goes_on, removed)
 
     -- ---- each state
 
     keeps : (s : State) (a : PlainAnswer) → GoodFor Good (wants s) a → P s → P (after s a)
-    keeps (doing e s) a good h = leads (done_in a) (λ _. s) (λ _ _. c.ends.errand e s h)
-    keeps (creating number x rest) a good h = leads (temp_in a) (λ file. write_rest x file rest) (λ file e. rests x file rest (c.commits.created number x rest file (a, good, e) h))
-    keeps (writing x file rest) a good h = leads (written_in a) (after_write x rest) (λ w e. writes x file rest w (a, good, e) h)
-    keeps (syncing x file) a good h = leads (synced_in a) (persisting x) (λ new e. c.commits.synced x file new (a, good, e) h)
-    keeps (persisting x file) a good h = stored x (done_in a) (λ fault. c.commits.persisted x file fault h)
-    keeps (linking x target) a good h = stored x (done_in a) (λ fault. c.commits.linked x target fault h)
-    keeps (confirming x fault) a good h = go_on_leads P (there_in a) (λ _. fails fault) (after_confirm x fault) memory (λ _. fails_so fault) (λ there _. confirms x fault there h)
-    keeps (appending i) a good h = leads (taken_in a) (after_append i) (λ n _. appends i n h)
-    keeps (looking l) a good h = go_on_leads P (bytes_in a) (no_bucket l) (after_bucket l) memory (λ fault. unread l fault h) (λ bytes _. c.reads.found l (found_in l.key bytes) h)
-    keeps (reading k) a good h = leads (bytes_in a) (checked k) (λ bytes _. checks k bytes h)
-    keeps (asking k) a good h = go_on_leads P (there_in a) answer_absent answer_there memory (λ _. c.reads.asked k false h) (λ there _. c.reads.asked k there h)
-    keeps (sizing t) a good h = leads (length_in a) (after_size t) (λ n _. c.files.sized t n h)
-    keeps (opening_file x) a good h = leads (file_in a) (λ file. hashing x file []) (λ file e. c.files.opened x file (a, good, e) h)
-    keeps (hashing x file bytes) a good h = leads (got_in a) (after_read x bytes) (λ g e. c.files.got x file bytes g (a, good, e) h)
-    keeps (copying from to count) a good h = leads (taken_in a) (λ n. over (Copied (copied_count count n))) (λ n _. c.files.copied from to count n h)
-    keeps (walking w v todo) a good h = let k = c.walks.visited w v todo h in visits w todo k.0 k.1.1 v a good k.1.0
-    keeps (over reply) a good h = h
+    keeps s a good h = grind (arith, leads, rests, writes, stored, go_on_leads, confirms, appends, unread, checks, visits)
 
   -- after a good answer to the state's next step
   pub kept : Closed → (s : State) (step : PlainStep) (a : PlainAnswer) → P s → wants s ≡ Some step → Good step a → P (after s a)

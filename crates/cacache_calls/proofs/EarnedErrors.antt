@@ -1,5 +1,5 @@
 -- A call's `IoError` has a cause.
-use Rattle.std.proofs.{Common.{◌≡◌, ◌⊎◌, inl, inr, ℕ, ◌+◌, ◌-◌, ◌<◌, ◌==◌, List, [], ◌∷◌, ◌++◌, Option, Some, None, Bool, true, false, cond, nat_le, nat_lt, Result, Ok, Err, refl, ◌∙◌, length, drop, take}, lemmas.Bool.{leb-false, eqb-true}}
+use Rattle.std.proofs.{Common.{arith, rules, ◌≡◌, ◌⊎◌, inl, inr, ℕ, ◌+◌, ◌-◌, ◌<◌, ◌==◌, List, [], ◌∷◌, ◌++◌, Option, Some, None, Bool, true, false, cond, nat_le, nat_lt, Result, Ok, Err, refl, ◌∙◌, length, drop, take}, lemmas.{Grind.{common_steps}, Bool.{leb-false, eqb-true}}}
 use Rattle.cacache_core.specs.{declared.{errors.{Fault.{Fault}, SerdeCause.{SerdeCause}, IntegrityFault.TheVariants.{Check}, Error.TheVariants.{SizeMismatch, IoError, SerdeError, EntryNotFound, IntegrityError, OutOfMemory}}, integrity.digest.Hash.{Hash}}, Integrity.{actual}, Paths.{join}, Meeting.{meets}}
 use Rattle.cacache_core.specs.declared.errors.Fault.TheVariants as faults
 use Rattle.cacache_store.specs.{declared.store.{plain.{PlainTemp.{PlainTemp}, PlainFile.{PlainFile}}, answer.{Kind.{Kind}, Name.{Name}}}, Plain.{PlainStep, PlainAnswer}, Fits.{Fits}}
@@ -17,100 +17,55 @@ use Rattle.cacache_calls.specs.declared.carried.Aim.TheVariants as aims
 -- ---- what a refusing answer reports
 
 errand_faults : (e : Errand) (t : PlainAnswer) (f : Fault) → Fits (errand_step e) t → done_in t ≡ Err (refusals.Fault f) → Faults (errand_step e) t f
-errand_faults e (answers.Failed g) f fits k = cc
-errand_faults e (answers.NoMemory b) f fits k = absurd cc
-errand_faults e answers.Done f fits k = absurd cc
-errand_faults (make_folder p) t f fits k = absurd fits
-errand_faults e t f fits k = absurd fits
+errand_faults e t f fits k = grind (arith, common_steps)
 
 persist_faults : (file : PlainTemp) (p : List ℕ) (t : PlainAnswer) (f : Fault) → Fits (steps.Persist file p) t → done_in t ≡ Err (refusals.Fault f) → Faults (steps.Persist file p) t f
-persist_faults file p (answers.Failed g) f fits e = cc
-persist_faults file p (answers.NoMemory b) f fits e = absurd cc
-persist_faults file p answers.Done f fits e = absurd cc
-persist_faults file p t f fits e = absurd fits
+persist_faults file p t f fits e = grind (arith, common_steps)
 
 symlink_faults : (q p : List ℕ) (t : PlainAnswer) (f : Fault) → Fits (steps.Symlink q p) t → done_in t ≡ Err (refusals.Fault f) → Faults (steps.Symlink q p) t f
-symlink_faults q p (answers.Failed g) f fits e = cc
-symlink_faults q p (answers.NoMemory b) f fits e = absurd cc
-symlink_faults q p answers.Done f fits e = absurd cc
-symlink_faults q p t f fits e = absurd fits
+symlink_faults q p t f fits e = grind (arith, common_steps)
 
 remove_faults : (p : List ℕ) (t : PlainAnswer) (f : Fault) → Fits (steps.RemoveFile p) t → done_in t ≡ Err (refusals.Fault f) → Faults (steps.RemoveFile p) t f
 remove_faults p t f fits e = errand_faults (remove p) t f fits e
 
 remove_folder_faults : (p : List ℕ) (t : PlainAnswer) (f : Fault) → Fits (steps.RemoveDir p) t → done_in t ≡ Err (refusals.Fault f) → Faults (steps.RemoveDir p) t f
-remove_folder_faults p (answers.Failed g) f fits e = cc
-remove_folder_faults p (answers.NoMemory b) f fits e = absurd cc
-remove_folder_faults p answers.Done f fits e = absurd cc
-remove_folder_faults p t f fits e = absurd fits
+remove_folder_faults p t f fits e = grind (arith, common_steps)
 
 temp_faults : (p : List ℕ) (t : PlainAnswer) (f : Fault) → Fits (steps.CreateTemp p) t → temp_in t ≡ Err (refusals.Fault f) → Faults (steps.CreateTemp p) t f
-temp_faults p (answers.Failed g) f fits e = cc
-temp_faults p (answers.NoMemory b) f fits e = absurd cc
-temp_faults p (answers.Temp g) f fits e = absurd cc
-temp_faults p t f fits e = absurd fits
+temp_faults p t f fits e = grind (arith, common_steps)
 
 synced_faults : (file : PlainTemp) (t : PlainAnswer) (f : Fault) → Fits (steps.SyncTemp file) t → synced_in t ≡ Err (refusals.Fault f) → Faults (steps.SyncTemp file) t f
-synced_faults file (answers.Failed g) f fits e = cc
-synced_faults file (answers.NoMemory x) f fits e = absurd cc
-synced_faults file (answers.Synced g) f fits e = absurd cc
-synced_faults file t f fits e = absurd fits
+synced_faults file t f fits e = grind (arith, common_steps)
 
 written_faults : (file : PlainTemp) (b : List ℕ) (t : PlainAnswer) (f : Fault) → Fits (steps.Write file b) t → written_in t ≡ Err (refusals.Fault f) → Faults (steps.Write file b) t f
-written_faults file b (answers.Failed g) f fits e = cc
-written_faults file b (answers.NoMemory x) f fits e = absurd cc
-written_faults file b (answers.Wrote g n) f fits e = absurd cc
-written_faults file b t f fits e = absurd fits
+written_faults file b t f fits e = grind (arith, common_steps)
 
 zero_faults : (file : PlainTemp) (b : List ℕ) (t : PlainAnswer) (w : PlainTemp × ℕ) → written_in t ≡ Ok w → w.1 ≡ 0 → Faults (steps.Write file b) t faults.WriteZero
-zero_faults file b (answers.Wrote g n) w e z = (refl, let same : n ≡ w.1 = cc in same ∙ z)
-zero_faults file b t w e z = absurd cc
+zero_faults file b t w e z = grind (arith, common_steps)
 
 append_faults : (p line : List ℕ) (t : PlainAnswer) (f : Fault) → Fits (steps.Append p line) t → taken_in t ≡ Err (refusals.Fault f) → Faults (steps.Append p line) t f
-append_faults p line (answers.Failed g) f fits e = cc
-append_faults p line (answers.NoMemory x) f fits e = absurd cc
-append_faults p line (answers.Took n) f fits e = absurd cc
-append_faults p line t f fits e = absurd fits
+append_faults p line t f fits e = grind (arith, common_steps)
 
 short_faults : (p line : List ℕ) (t : PlainAnswer) (n : ℕ) → taken_in t ≡ Ok n → n < length line → Faults (steps.Append p line) t faults.ShortAppend
-short_faults p line (answers.Took m) n e short = (refl, let same : m ≡ n = cc in rw same short)
-short_faults p line t n e short = absurd cc
+short_faults p line t n e short = grind (arith, common_steps)
 
 copy_faults : (p q : List ℕ) (t : PlainAnswer) (f : Fault) → Fits (steps.Copy p q) t → taken_in t ≡ Err (refusals.Fault f) → Faults (steps.Copy p q) t f
-copy_faults p q (answers.Failed g) f fits e = cc
-copy_faults p q (answers.NoMemory x) f fits e = absurd cc
-copy_faults p q (answers.Took n) f fits e = absurd cc
-copy_faults p q t f fits e = absurd fits
+copy_faults p q t f fits e = grind (arith, common_steps)
 
 bytes_faults : (p : List ℕ) (t : PlainAnswer) (f : Fault) → Fits (steps.ReadAll p) t → bytes_in t ≡ Err (refusals.Fault f) → Faults (steps.ReadAll p) t f
-bytes_faults p (answers.Failed g) f fits e = cc
-bytes_faults p (answers.NoMemory x) f fits e = absurd cc
-bytes_faults p (answers.Bytes b) f fits e = absurd cc
-bytes_faults p t f fits e = absurd fits
+bytes_faults p t f fits e = grind (arith, common_steps)
 
 file_faults : (p : List ℕ) (t : PlainAnswer) (f : Fault) → Fits (steps.Open p) t → file_in t ≡ Err (refusals.Fault f) → Faults (steps.Open p) t f
-file_faults p (answers.Failed g) f fits e = cc
-file_faults p (answers.NoMemory x) f fits e = absurd cc
-file_faults p (answers.File b) f fits e = absurd cc
-file_faults p t f fits e = absurd fits
+file_faults p t f fits e = grind (arith, common_steps)
 
 got_faults : (file : PlainFile) (n : ℕ) (t : PlainAnswer) (f : Fault) → Fits (steps.Read file n) t → got_in t ≡ Err (refusals.Fault f) → Faults (steps.Read file n) t f
-got_faults file n (answers.Failed g) f fits e = cc
-got_faults file n (answers.NoMemory x) f fits e = absurd cc
-got_faults file n (answers.Got g b) f fits e = absurd cc
-got_faults file n t f fits e = absurd fits
+got_faults file n t f fits e = grind (arith, common_steps)
 
 length_faults : (p : List ℕ) (t : PlainAnswer) (f : Fault) → Fits (steps.Size p) t → length_in t ≡ Err (refusals.Fault f) → Faults (steps.Size p) t f
-length_faults p (answers.Failed g) f fits e = cc
-length_faults p (answers.NoMemory x) f fits e = absurd cc
-length_faults p (answers.Length n) f fits e = absurd cc
-length_faults p t f fits e = absurd fits
+length_faults p t f fits e = grind (arith, common_steps)
 
 names_faults : (p : List ℕ) (t : PlainAnswer) (f : Fault) → Fits (steps.ReadDir p) t → names_in t ≡ Err (refusals.Fault f) → Faults (steps.ReadDir p) t f
-names_faults p (answers.Failed g) f fits e = cc
-names_faults p (answers.NoMemory x) f fits e = absurd cc
-names_faults p (answers.Names ns) f fits e = absurd cc
-names_faults p t f fits e = absurd fits
+names_faults p t f fits e = grind (arith, common_steps)
 
 -- ---- states
 
@@ -143,29 +98,23 @@ abbrev IsClean : State → Type 0
 IsClean s = Sound s × ((f : Fault) → own s f → ⊥)
 
 clean_insert : (i : Insertion) (cause : Option SerdeCause) → HasCause (λ _. ⊥) [] i.reply → IsClean (unless_refused i cause)
-clean_insert i None k = (k, λ f x. x)
-clean_insert i (Some cause) k = (tt, λ f x. x)
+clean_insert i cause k = grind (arith, common_steps)
 
 clean_index : (c : Commit) (key : Option (List ℕ)) → IsClean (indexed c key)
-clean_index c None = (tt, λ f x. x)
-clean_index c (Some key) = clean_insert (insertion_of c key) (refused_cause (insertion_of c key)) tt
+clean_index c key = grind (arith, clean_insert)
 
 clean_size : (c : Commit) (size : Option ℕ) → IsClean (sized c size)
-clean_size c None = clean_index c c.key
-clean_size c (Some n) = cond_leads IsClean (n == c.count) (indexed c c.key) (ends_with (SizeMismatch n c.count)) (λ _. clean_index c c.key) (λ _. (tt, λ f x. x))
+clean_size c size = grind (arith, clean_index, cond_leads)
 
 clean_integrity : (c : Commit) (i : Option (List Hash)) → IsClean (compared c i)
-clean_integrity c None = clean_size c c.options.size
-clean_integrity c (Some i) = cond_leads IsClean (matches i c.computed) (sized c c.options.size) (ends_with (IntegrityError (Check i c.computed))) (λ _. clean_size c c.options.size) (λ _. (tt, λ f x. x))
+clean_integrity c i = grind (arith, clean_size, cond_leads)
 
 clean_syncs : (folders : List (List ℕ)) (s : State) → IsClean s → IsClean (sync_up folders s)
 clean_syncs [] s h = h
 clean_syncs (p ∷ ps) s h = clean_syncs ps (doing (sync_dir p) s) h
 
 clean_secured : (c : Commit) → IsClean (secured c)
-clean_secured c =
-    cond_leads IsClean c.options.durable (sync_up (content_folders c.cache c.computed) (placed c)) (placed c)
-    (λ _. clean_syncs (content_folders c.cache c.computed) (placed c) (clean_integrity c c.options.integrity)) (λ _. clean_integrity c c.options.integrity)
+clean_secured c = search (rules, cond_leads, clean_syncs, clean_integrity)
 
 clean_moved : (c : Commit) (file : PlainTemp) → IsClean (move_in c file)
 clean_moved c file = cond_leads IsClean c.options.durable (syncing c file) (persisting c file) (λ _. (tt, λ f x. x)) (λ _. (tt, λ f x. x))
@@ -175,25 +124,16 @@ module _ (O : Fault → Type 0) (a : PlainStep) (t : PlainAnswer) (moves : Moves
   Now = HasCause O ((a, t) ∷ moves) r
 
   later : (Q : Fault → Type 0) → ((f : Fault) → Q f → O f ⊎ Faults a t f) → HasCause Q moves r → Now
-  later Q k = by_reply r
-    where
-      by_reply : (r : Reply) → HasCause Q moves r → HasCause O ((a, t) ∷ moves) r
-      by_reply (Refused (IoError f message)) (inl q) = elim (k f q) [ inl o ↦ inl o | inr x ↦ inr (inl x) ]
-      by_reply (Refused (IoError f message)) (inr x) = inr (inr x)
-      by_reply r h = tt
+  later Q k = search rules
 
   over_now : (reply : Reply) → HasCause O ((a, t) ∷ moves) reply → Causes (over reply) moves r → Now
-  over_now reply k (inl e) = rw e k
-  over_now reply k (inr e) = rw e tt
+  over_now reply k h = grind (arith, common_steps)
 
   fails_now : (f : Fault) → O f ⊎ Faults a t f → Causes (fails f) moves r → Now
-  fails_now f (inl o) h = over_now (Refused (IoError f [])) (inl o) h
-  fails_now f (inr x) h = over_now (Refused (IoError f [])) (inr (inl x)) h
+  fails_now f h2 h = grind (arith, over_now)
 
   goes : {X : Type 0} (res : Result X Refusal) (failed : Fault → State) (next : X → State) → ((f : Fault) → res ≡ Err (refusals.Fault f) → Causes (failed f) moves r → Now) → ((x : X) → res ≡ Ok x → Causes (next x) moves r → Now) → Causes (go_on res failed next) moves r → Now
-  goes (Ok x) failed next k n h = n x refl h
-  goes (Err (refusals.Fault f)) failed next k n h = k f refl h
-  goes (Err refusals.Memory) failed next k n h = over_now (Refused OutOfMemory) tt h
+  goes res failed next k n h = grind (arith, over_now)
 
   goes_or_fails : {X : Type 0} (res : Result X Refusal) (next : X → State) → ((f : Fault) → res ≡ Err (refusals.Fault f) → Faults a t f) → ((x : X) → res ≡ Ok x → Causes (next x) moves r → Now) → Causes (go_on res fails next) moves r → Now
   goes_or_fails res next k n h = goes res fails next (λ f e. fails_now f (inr (k f e))) n h
@@ -203,20 +143,16 @@ module _ (O : Fault → Type 0) (a : PlainStep) (t : PlainAnswer) (moves : Moves
   holds_none h = later (λ _. ⊥) (λ f x. absurd x) h
 
   inserts : (i : Insertion) (cause : Option SerdeCause) → HasCause (λ _. ⊥) [] i.reply → Causes (unless_refused i cause) moves r → Now
-  inserts i None k h = holds_none (h k)
-  inserts i (Some cause) k h = over_now (Refused (SerdeError cause [])) tt h
+  inserts i cause k h = grind (arith, holds_none, over_now)
 
   by_key : (c : Commit) (key : Option (List ℕ)) → Causes (indexed c key) moves r → Now
-  by_key c None h = over_now (Stored c.computed) tt h
-  by_key c (Some key) h = inserts (insertion_of c key) (refused_cause (insertion_of c key)) tt h
+  by_key c key h = grind (arith, over_now, inserts)
 
   by_size : (c : Commit) (size : Option ℕ) → Causes (sized c size) moves r → Now
-  by_size c None h = by_key c c.key h
-  by_size c (Some n) h = cond_leads (λ s. Causes s moves r → Now) (n == c.count) (indexed c c.key) (ends_with (SizeMismatch n c.count)) (λ _. by_key c c.key) (λ _. over_now (Refused (SizeMismatch n c.count)) tt) h
+  by_size c size h = grind (arith, by_key, cond_leads, over_now)
 
   by_integrity : (c : Commit) (i : Option (List Hash)) → Causes (compared c i) moves r → Now
-  by_integrity c None h = by_size c c.options.size h
-  by_integrity c (Some i) h = cond_leads (λ s. Causes s moves r → Now) (matches i c.computed) (sized c c.options.size) (ends_with (IntegrityError (Check i c.computed))) (λ _. by_size c c.options.size) (λ _. over_now (Refused (IntegrityError (Check i c.computed))) tt) h
+  by_integrity c i h = grind (arith, by_size, cond_leads, over_now)
 
   places : (c : Commit) → Causes (placed c) moves r → Now
   places c h = by_integrity c c.options.integrity h
@@ -230,53 +166,34 @@ module _ (O : Fault → Type 0) (a : PlainStep) (t : PlainAnswer) (moves : Moves
   syncs (p ∷ ps) s k g h = syncs ps (doing (sync_dir p) s) k (clean_now s k) h
 
   secures : (c : Commit) → Causes (secured c) moves r → Now
-  secures c h =
-      cond_leads (λ s. Causes s moves r → Now) c.options.durable (sync_up (content_folders c.cache c.computed) (placed c)) (placed c)
-      (λ _. syncs (content_folders c.cache c.computed) (placed c) (clean_integrity c c.options.integrity) (places c)) (λ _. places c) h
+  secures c h = search (rules, cond_leads, syncs, clean_integrity, places)
 
   secures_found : (c : Commit) → Causes (secured_found c) moves r → Now
-  secures_found c h =
-      cond_leads (λ s. Causes s moves r → Now) c.options.durable (doing (sync_file (content_path c.cache c.computed)) (secured c)) (secured c)
-      (λ _. clean_now (secured c) (clean_secured c)) (λ _. secures c) h
+  secures_found c h = search (rules, cond_leads, clean_now, clean_secured, secures)
 
   records : (i : Insertion) → HasCause O ((a, t) ∷ moves) i.reply → HasCause (λ _. ⊥) [] i.reply → Causes (recorded i) moves r → Now
-  records i now k h =
-      cond_leads (λ s. Causes s moves r → Now) i.durable (doing (sync_file (bucket_path i.cache i.entry.key)) (sync_up (bucket_folders i.cache i.entry.key) (over i.reply))) (over i.reply)
-      (λ _. clean_now (sync_up (bucket_folders i.cache i.entry.key) (over i.reply)) (clean_syncs (bucket_folders i.cache i.entry.key) (over i.reply) (k, λ f x. x)))
-      (λ _. over_now i.reply now) h
+  records i now k h = search (rules, cond_leads, clean_now, clean_syncs, over_now)
 
   writes_rest : (c : Commit) (file : PlainTemp) (rest : List ℕ) → Causes (write_rest c file rest) moves r → Now
-  writes_rest c file [] h = clean_now (move_in c file) (clean_moved c file) h
-  writes_rest c file (b ∷ bs) h = holds_none (h tt)
+  writes_rest c file rest h = grind (arith, clean_now, clean_moved, holds_none)
 
   exports_from : (how : How) (from to : List ℕ) (count : Option ℕ) → Causes (export_from how from to count) moves r → Now
-  exports_from Copy from to count h = holds_none (h tt)
-  exports_from how from to count h = holds_none (h tt)
+  exports_from how from to count h = grind (arith, holds_none)
 
   hashes : (h : Hashing) (bytes : List ℕ) → Causes (hashed h bytes) moves r → Now
-  hashes (to_verify k e) bytes g =
-      cond_leads (λ s. Causes s moves r → Now) (meets k.integrity bytes) (export_content k e (Some (length bytes))) (ends_with (IntegrityError (Check k.integrity (actual k.integrity bytes))))
-      (λ _. exports_from e.how (content_path k.cache k.integrity) e.to (Some (length bytes))) (λ _. over_now (Refused (IntegrityError (Check k.integrity (actual k.integrity bytes)))) tt) g
-  hashes (to_link x) bytes g = holds_none (g tt)
+  hashes h bytes g = grind (arith, cond_leads, exports_from, over_now, holds_none)
 
   reads_on : (h : Hashing) (bytes : List ℕ) (file : PlainFile) (more : List ℕ) → Causes (after_read h bytes (file, more)) moves r → Now
-  reads_on h bytes file [] g = hashes h bytes g
-  reads_on h bytes file (b ∷ bs) g = holds_none (g tt)
+  reads_on h bytes file more g = grind (arith, hashes, holds_none)
 
   exports : (k : Content) (e : Export) → Causes (export k e) moves r → Now
   exports k e h = cond_leads (λ s. Causes s moves r → Now) e.checked (opening_file (to_verify k e)) (export_content k e None) (λ _ g. holds_none (g tt)) (λ _. exports_from e.how (content_path k.cache k.integrity) e.to None) h
 
   founds : (l : Lookup) (aim : Aim) (found : Option Found) → Causes (found_for l aim found) moves r → Now
-  founds l aims.Report found h = over_now (LookedUp found) tt h
-  founds l aims.Read None h = over_now (Refused (EntryNotFound l.cache l.key)) tt h
-  founds l (aims.Export e) (Some f) h = exports (found_content l f) e h
-  founds l (aims.Export e) None h = over_now (Refused (EntryNotFound l.cache l.key)) tt h
-  founds l aims.Remove (Some f) h = holds_none (h tt)
-  founds l aim found h = holds_none (h tt)
+  founds l aim found h = grind (arith, over_now, exports, holds_none)
 
   unreads : (l : Lookup) (f : Fault) → Faults a t f → Causes (no_bucket l f) moves r → Now
-  unreads l faults.NotFound x h = founds l l.aim None h
-  unreads l f x h = fails_now f (inr x) h
+  unreads l f x h = grind (arith, founds, fails_now)
 
   checks : (k : Content) (bytes : List ℕ) → Causes (checked k bytes) moves r → Now
   checks k bytes h = cond_leads (λ s. Causes s moves r → Now) (meets k.integrity bytes) (over (Read bytes)) (ends_with (IntegrityError (Check k.integrity (actual k.integrity bytes)))) (λ _. over_now (Read bytes) tt) (λ _. over_now (Refused (IntegrityError (Check k.integrity (actual k.integrity bytes)))) tt) h
@@ -305,30 +222,14 @@ own_rest (Stumble g path ∷ a) b f h (inr o) = own_rest a b f h.1 o
 own_rest (Make v ∷ a) b f h o = own_rest a b f h o
 
 task_ordinary : (clears : Bool) (level : ℕ) (p : List ℕ) (kind : Kind) → Ordinary (task_for_name clears level p kind ∷ [])
-task_ordinary clears level p kinds.Folder = by_level (nat_lt level 16)
-  where
-    by_level : (b : Bool) → Ordinary (cond b (Make (Enter p (level + 1))) (Stumble faults.TooDeep p) ∷ [])
-    by_level true = tt
-    by_level false = (inl refl, tt)
-task_ordinary false level p kinds.Link = tt
-task_ordinary true level p kinds.File = by_top (level == 0)
-  where
-    by_top : (b : Bool) → Ordinary (cond b (Stumble faults.NotADirectory p) (Make (RemoveFile p)) ∷ [])
-    by_top true = (inr refl, tt)
-    by_top false = tt
-task_ordinary clears level p kind = tt
+task_ordinary clears level p kind = grind (arith, common_steps)
 
 tasks_ordinary : (clears : Bool) (level : ℕ) (p : List ℕ) (names : List Name) → Ordinary (tasks_of clears level p names)
 tasks_ordinary clears level p [] = tt
 tasks_ordinary clears level p (n ∷ ns) = ordinary_append (task_for_name clears level (join p n.name) n.kind ∷ []) (tasks_of clears level p ns) (task_ordinary clears level (join p n.name) n.kind) (tasks_ordinary clears level p ns)
 
 leaving_ordinary : (clears : Bool) (level : ℕ) (p : List ℕ) → Ordinary (leaving clears level p)
-leaving_ordinary clears level p = by_both clears (level == 0)
-  where
-    by_both : (b c : Bool) → Ordinary (cond b (cond c [] (Make (RemoveFolder p) ∷ [])) [])
-    by_both true true = tt
-    by_both true false = tt
-    by_both false c = tt
+leaving_ordinary clears level p = search rules
 
 module _ (O : Fault → Type 0) (a : PlainStep) (t : PlainAnswer) (moves : Moves) (r : Reply) where
   -- a fault whose cause is this step
@@ -395,20 +296,14 @@ FitsWanted (Some a) t = Fits a t
 
 -- a reply that isn't an `IoError`
 no_fault : (O : Fault → Type 0) (moves : Moves) (reply : Reply) → HasCause (λ _. ⊥) [] reply → HasCause O moves reply
-no_fault O moves (Refused (IoError f message)) (inl k) = absurd k
-no_fault O moves (Refused (IoError f message)) (inr k) = absurd k
-no_fault O moves reply k = tt
+no_fault O moves reply h = grind (arith, common_steps)
 
 -- after a step to a sound state, an `IoError` has a cause
 carries : (s : State) (a : PlainStep) (t : PlainAnswer) (moves : Moves) (r : Reply) → Sound s → Causes s moves r → HasCause (own s) ((a, t) ∷ moves) r
-carries (over reply) a t moves r k h = over_now (λ _. ⊥) a t moves r reply (no_fault (λ _. ⊥) ((a, t) ∷ moves) reply k) h
-carries s a t moves r k h = later (own s) a t moves r (own s) (λ f q. inl q) (h k)
+carries s a t moves r k h = grind (arith, over_now, no_fault, later)
 
 wrote : (c : Commit) (file : PlainTemp) (rest : List ℕ) (t : PlainAnswer) (moves : Moves) (r : Reply) (w : PlainTemp × ℕ) → written_in t ≡ Ok w → Causes (after_write c rest w) moves r → HasCause (λ _. ⊥) ((steps.Write file rest, t) ∷ moves) r
-wrote c file rest t moves r w e h =
-    cond_leads (λ s. Causes s moves r → HasCause (λ _. ⊥) ((steps.Write file rest, t) ∷ moves) r) (w.1 == 0) (fails faults.WriteZero) (write_rest c w.0 (drop w.1 rest))
-    (λ z. fails_now (λ _. ⊥) (steps.Write file rest) t moves r faults.WriteZero (inr (zero_faults file rest t w e (eqb-true w.1 0 z))))
-    (λ _. writes_rest (λ _. ⊥) (steps.Write file rest) t moves r c w.0 (drop w.1 rest)) h
+wrote c file rest t moves r w e h = search (rules, cond_leads, fails_now, zero_faults, writes_rest)
 
 sent : (i : Insertion) (t : PlainAnswer) (moves : Moves) (r : Reply) (n : ℕ) → taken_in t ≡ Ok n → HasCause (λ _. ⊥) [] i.reply → Causes (after_append i n) moves r → HasCause (λ _. ⊥) ((steps.Append (bucket_path i.cache i.entry.key) (bucket_line i), t) ∷ moves) r
 sent i t moves r n e k h =
@@ -418,8 +313,7 @@ sent i t moves r n e k h =
     (λ short. fails_now (λ _. ⊥) a t moves r faults.ShortAppend (inr (short_faults (bucket_path i.cache i.entry.key) (bucket_line i) t n e (leb-false (length (bucket_line i)) n short)))) h
 
 confirms : (c : Commit) (fault : Fault) (a : PlainStep) (t : PlainAnswer) (moves : Moves) (r : Reply) (there : Bool) → Causes (after_confirm c fault there) moves r → HasCause (λ f. f ≡ fault) ((a, t) ∷ moves) r
-confirms c fault a t moves r true h = secures_found (λ f. f ≡ fault) a t moves r c h
-confirms c fault a t moves r false h = fails_now (λ f. f ≡ fault) a t moves r fault (inl refl) h
+confirms c fault a t moves r there h = grind (arith, secures_found, fails_now)
 
 causes_step : (s : State) (t : PlainAnswer) (moves : Moves) (r : Reply) → FitsWanted (wants s) t → Causes (after s t) moves r → Causes s (with_item (wants s) t moves) r
 causes_step (doing errand s) t moves r fits h = λ k. goes_or_fails (own s) (errand_step errand) t moves r (done_in t) (λ _. s) (λ f e. errand_faults errand t f fits e) (λ _ _. carries s (errand_step errand) t moves r k) h
@@ -441,8 +335,7 @@ causes_step (walking w v todo) t moves r fits h = λ k. visits w v todo t moves 
 causes_step (over reply) t moves r fits h = h
 
 memory_causes : (s : State) → Causes s [] (Refused OutOfMemory)
-memory_causes (over reply) = inr refl
-memory_causes s = λ k. tt
+memory_causes s = grind (arith, common_steps)
 
 runs_cause : (s : State) (moves : Moves) (r : Reply) → Runs s moves r → Causes s moves r
 runs_cause s [] r (inl e) = rw e (inl refl)
@@ -453,22 +346,7 @@ runs_cause s (m ∷ moves) r run =
     rw run.0 at h
 
 over_caused : (O : Fault → Type 0) (reply : Reply) (moves : Moves) (r : Reply) → HasCause (λ _. ⊥) [] reply → Causes (over reply) moves r → HasCause O moves r
-over_caused O reply moves r k (inl e) = rw e (no_fault O moves reply k)
-over_caused O reply moves r k (inr e) = rw e tt
+over_caused O reply moves r k h = grind (arith, no_fault)
 
 pub io_errors_have_causes : (site : Site) (command : Command) (moves : Moves) (r : Reply) → Runs (opening site command) moves r → HasCause (own_of command) moves r
-io_errors_have_causes site command moves r run = opened command (runs_cause (opening site command) moves r run)
-  where
-    inserted : (i : Insertion) (cause : Option SerdeCause) → HasCause (λ _. ⊥) [] i.reply → Causes (unless_refused i cause) moves r → HasCause (λ _. ⊥) moves r
-    inserted i None k h = h k
-    inserted i (Some cause) k h = over_caused (λ _. ⊥) (Refused (SerdeError cause [])) moves r tt h
-
-    exported : (how : How) (from to : List ℕ) → Causes (export_from how from to None) moves r → HasCause (λ _. ⊥) moves r
-    exported Copy from to h = h tt
-    exported how from to h = h tt
-
-    opened : (command : Command) → Causes (opening site command) moves r → HasCause (own_of command) moves r
-    opened (commands.Insert i) h = inserted (insertion site.cache i) (refused_cause (insertion site.cache i)) tt h
-    opened (commands.Delete d) h = inserted (deletion site.cache d) (refused_cause (deletion site.cache d)) tt h
-    opened (commands.Export (sources.Hash i) e) h = cond_leads (λ s. Causes s moves r → HasCause (λ _. ⊥) moves r) e.checked (opening_file (to_verify (record { cache = site.cache; integrity = i }) e)) (export_from e.how (content_path site.cache i) e.to None) (λ _ g. g tt) (λ _. exported e.how (content_path site.cache i) e.to) h
-    opened command h = h tt
+io_errors_have_causes site command moves r run = search (rules, runs_cause, over_caused, cond_leads)

@@ -1,5 +1,5 @@
 -- The steps of a commit do nothing; or store its content; or store its content and then append its entry.
-use Rattle.std.proofs.{Common.{◌≡◌, ◌⊎◌, inl, inr, ℕ, ◌+◌, ◌<◌, ◌^◌, ◌==◌, List, [], ◌∷◌, Option, Some, None, Bool, true, nat_le, Result, Ok, Err, refl, sym, subst, length, length-append, drop, arith}, lemmas.Bool.{leb-true}}
+use Rattle.std.proofs.{lemmas.{Grind.{common_steps}, Bool.{leb-true}}, Common.{rules, ◌≡◌, ◌⊎◌, inl, inr, ℕ, ◌+◌, ◌<◌, ◌^◌, ◌==◌, List, [], ◌∷◌, Option, Some, None, Bool, true, nat_le, Result, Ok, Err, refl, sym, subst, length, length-append, drop, arith}}
 use Rattle.cacache_core.specs.declared.{errors.{Fault.{Fault}, SerdeCause.{SerdeCause}, IntegrityFault.TheVariants.{Check}, Error.{Error, TheVariants.{SizeMismatch, IoError, SerdeError, IntegrityError, OutOfMemory}}}, integrity.digest.Hash.{Hash}}
 use Rattle.cacache_core.specs.declared.errors.Fault.TheVariants as faults
 use Rattle.cacache_store.specs.{declared.store.plain.{PlainTemp.{PlainTemp}, PlainFile.{PlainFile}}, Fits.{Fits}, Plain.{PlainStep, PlainAnswer}}
@@ -41,34 +41,24 @@ synced effects r X (p ∷ ps) s n k h = synced effects r X ps (doing (sync_dir p
 module _ (c : Commit) (effects : List Effect) (r : Reply) where
   -- a commit that ends before its entry
   ends_before : (key : Option (List ℕ)) → DoesNothing effects r → Indexes c key effects r
-  ends_before None h = h.0
-  ends_before (Some key) h = inl h
+  ends_before key h = grind (arith, common_steps)
 
   unindexed : (key : Option (List ℕ)) (e : Error) → Does (ends_with e) effects r → Indexes c key effects r
-  unindexed None e h = h.0
-  unindexed (Some key) e h = inl (refused e effects r h)
+  unindexed key e h = grind (arith, refused)
 
   -- ---- once the content is stored
 
   inserts : (key : List ℕ) (cause : Option SerdeCause) → refused_cause (insertion_of c key) ≡ cause → Does (unless_refused (insertion_of c key) cause) effects r → Indexes c (Some key) effects r
-  inserts key None e (inl h) = inl h
-  inserts key None e (inr (inl h)) = inl h
-  inserts key None e (inr (inr h)) = inr (e, h)
-  inserts key (Some cause) e h = inl (refused (SerdeError cause []) effects r h)
+  inserts key cause e h = grind (arith, refused)
 
   by_key : (key : Option (List ℕ)) → Does (indexed c key) effects r → Indexes c key effects r
-  by_key None h = h.0
-  by_key (Some key) h = inserts key (refused_cause (insertion_of c key)) refl h
+  by_key key h = grind (arith, inserts)
 
   by_size : (size : Option ℕ) → Does (sized c size) effects r → Indexes c c.key effects r
-  by_size None h = by_key c.key h
-  by_size (Some wanted) h =
-      cond_leads (λ s. Does s effects r → Indexes c c.key effects r) (wanted == c.count) (indexed c c.key) (ends_with (SizeMismatch wanted c.count)) (λ _. by_key c.key) (λ _. unindexed c.key (SizeMismatch wanted c.count)) h
+  by_size size h = grind (arith, by_key, cond_leads, unindexed)
 
   by_integrity : (expected : Option (List Hash)) → Does (compared c expected) effects r → Indexes c c.key effects r
-  by_integrity None h = by_size c.options.size h
-  by_integrity (Some expected) h =
-      cond_leads (λ s. Does s effects r → Indexes c c.key effects r) (matches expected c.computed) (sized c c.options.size) (ends_with (IntegrityError (Check expected c.computed))) (λ _. by_size c.options.size) (λ _. unindexed c.key (IntegrityError (Check expected c.computed))) h
+  by_integrity expected h = grind (arith, by_size, cond_leads, unindexed)
 
   places : Does (placed c) effects r → Indexes c c.key effects r
   places h = by_integrity c.options.integrity h
@@ -79,9 +69,7 @@ module _ (c : Commit) (effects : List Effect) (r : Reply) where
       (λ _. synced effects r (Indexes c c.key effects r) (content_folders c.cache c.computed) (placed c) (ends_before c.key) places) (λ _. places) h
 
   secures_found : Does (secured_found c) effects r → Indexes c c.key effects r
-  secures_found h =
-      cond_leads (λ s. Does s effects r → Indexes c c.key effects r) c.options.durable (doing (sync_file (content_path c.cache c.computed)) (secured c)) (secured c)
-      (λ _ d. elim d [ inl a ↦ ends_before c.key a | inr b ↦ secures b ]) (λ _. secures) h
+  secures_found h = search (rules, cond_leads, ends_before, secures)
 
   -- ---- before the content is stored
 
@@ -92,26 +80,19 @@ module _ (c : Commit) (effects : List Effect) (r : Reply) where
   no_memory h = inl (refused OutOfMemory effects r h)
 
   puts : (a : Result (Unit {0}) Refusal) → Does (go_on a (confirming c) (λ _. secured c)) effects r → Commits c (if_done a (stored (content_path c.cache c.computed)) effects) r
-  puts (Ok done) h = inr (effects, refl, secures h)
-  puts (Err (refusals.Fault fault)) h = h
-  puts (Err refusals.Memory) h = no_memory h
+  puts a h = grind (arith, secures, no_memory)
 
   confirms : (fault : Fault) (a : Result Bool Refusal) → Does (go_on a (λ _. fails fault) (after_confirm c fault)) effects r → Commits c (if_there a (stored (content_path c.cache c.computed)) effects) r
-  confirms fault (Ok true) h = inr (effects, refl, secures_found h)
-  confirms fault (Err refusals.Memory) h = no_memory h
-  confirms fault a h = fails_first fault h
+  confirms fault a h = grind (arith, secures_found, no_memory, fails_first)
 
   moves : (file : PlainTemp) → Does (move_in c file) effects r → Commits c effects r
   moves file h = cond_leads (λ s. Does s effects r → Commits c effects r) c.options.durable (syncing c file) (persisting c file) (λ _ g. g) (λ _ g. g) h
 
   writes_rest : (file : PlainTemp) (rest : List ℕ) → Does (write_rest c file rest) effects r → Commits c effects r
-  writes_rest file [] (inl h) = inl h
-  writes_rest file [] (inr h) = moves file h
-  writes_rest file (b ∷ bs) h = h
+  writes_rest file rest h = grind (arith, moves)
 
   writes : (rest : List ℕ) (w : PlainTemp × ℕ) → Does (after_write c rest w) effects r → Commits c effects r
-  writes rest w h =
-      cond_leads (λ s. Does s effects r → Commits c effects r) (w.1 == 0) (fails faults.WriteZero) (write_rest c w.0 (drop w.1 rest)) (λ _. fails_first faults.WriteZero) (λ _. writes_rest w.0 (drop w.1 rest)) h
+  writes rest w h = search (rules, cond_leads, fails_first, writes_rest)
 
 -- ---- the entry
 
@@ -128,31 +109,20 @@ took i n effects r h =
     (λ e g. records i effects r (TookAll (bucket_line i) (answers.Took n)) (leb-true (length (bucket_line i)) n e) g) (λ _ g. let k = refused (IoError faults.ShortAppend []) effects r g in (k.0, inl k.1)) h
 
 appends : (i : Insertion) (t : PlainAnswer) (effects : List Effect) (r : Reply) → Does (go_on (taken_in t) fails (after_append i)) effects r → (effects ≡ []) × (IsRefused r ⊎ TookAll (bucket_line i) t)
-appends i (answers.Took n) effects r h = took i n effects r h
-appends i (answers.Failed fault) effects r h = let k = refused (IoError fault []) effects r h in (k.0, inl k.1)
-appends i (answers.NoMemory step) effects r h = let k = refused OutOfMemory effects r h in (k.0, inl k.1)
-appends i t effects r h = let k = refused (IoError faults.Device []) effects r h in (k.0, inl k.1)
+appends i t effects r h = grind (arith, took, refused)
 
 -- ---- links
 
 links_on : (t : Target ℕ) (bytes : List ℕ) (effects : List Effect) (r : Reply) (file : PlainFile) (more : List ℕ) → file.left + length more + length bytes < 2 ^ 64
     → Does (after_read (to_link t) bytes (file, more)) effects r → Links t effects r
-links_on t bytes effects r file [] bound (inl h) = inl h
-links_on t bytes effects r file [] bound (inr h) = inr (bytes, omega (arith, bound), h)
-links_on t bytes effects r file (b ∷ bs) bound h = h (omega (arith, bound, length-append bytes (b ∷ bs)))
+links_on t bytes effects r file more bound h = grind (arith, common_steps)
 
 links_opened : (t : Target ℕ) (a : PlainAnswer) (effects : List Effect) (r : Reply) → Fits (steps.Open t.path) a → Does (go_on (file_in a) fails (λ file. hashing (to_link t) file [])) effects r → Links t effects r
-links_opened t (answers.File file) effects r fits h = h (omega (arith, fits))
-links_opened t (answers.Failed fault) effects r fits h = inl (refused (IoError fault []) effects r h)
-links_opened t (answers.NoMemory step) effects r fits h = inl (refused OutOfMemory effects r h)
-links_opened t other effects r fits h = absurd fits
+links_opened t a effects r fits h = grind (arith, refused)
 
 links_read : (t : Target ℕ) (file : PlainFile) (bytes : List ℕ) (a : PlainAnswer) (effects : List Effect) (r : Reply) → Fits (steps.Read file piece) a
     → Does (go_on (got_in a) fails (after_read (to_link t) bytes)) effects r → file.left + length bytes < 2 ^ 64 → Links t effects r
-links_read t file bytes (answers.Got rest more) effects r fits h bound = links_on t bytes effects r rest more (omega (arith, fits.1, bound)) h
-links_read t file bytes (answers.Failed fault) effects r fits h bound = inl (refused (IoError fault []) effects r h)
-links_read t file bytes (answers.NoMemory step) effects r fits h bound = inl (refused OutOfMemory effects r h)
-links_read t file bytes other effects r fits h bound = absurd fits
+links_read t file bytes a effects r fits h bound = grind (arith, links_on, refused)
 
 module _ (t : Target ℕ) (effects : List Effect) (r : Reply) where
   links_go_on : {X : Type 0} (a : Result X Refusal) (next : X → State) → ((x : X) → Does (next x) effects r → Links t effects r) → Does (go_on a fails next) effects r → Links t effects r
@@ -179,9 +149,7 @@ memory_does (over reply) = (refl, inr refl)
 memory_does s = tt
 
 made : (s : State) (a : Result (Unit {0}) Refusal) (effects : List Effect) (r : Reply) → Does (go_on a fails (λ _. s)) effects r → (DoesNothing effects r) ⊎ Does s effects r
-made s (Ok done) effects r h = inr h
-made s (Err (refusals.Fault fault)) effects r h = inl (refused (IoError fault []) effects r h)
-made s (Err refusals.Memory) effects r h = inl (refused OutOfMemory effects r h)
+made s a effects r h = grind (arith, refused)
 
 commits_go_on : {X : Type 0} (c : Commit) (effects : List Effect) (r : Reply) (a : Result X Refusal) (next : X → State) → ((x : X) → Does (next x) effects r → Commits c effects r) → Does (go_on a fails next) effects r → Commits c effects r
 commits_go_on c effects r a next k = go_on_leads (λ s. Does s effects r → Commits c effects r) a fails next (no_memory c effects r) (fails_first c effects r) (λ x _. k x)
@@ -233,10 +201,7 @@ links_commit site l moves r run = runs_do (opening site (commands.Link l)) moves
 -- ---- insertions and deletions
 
 entry_does : (i : Insertion) (cause : Option SerdeCause) (effects : List Effect) (r : Reply) → refused_cause i ≡ cause → Does (unless_refused i cause) effects r → Inserts i effects r
-entry_does i None effects r e (inl h) = inl h
-entry_does i None effects r e (inr (inl h)) = inl h
-entry_does i None effects r e (inr (inr h)) = inr (e, h)
-entry_does i (Some cause) effects r e h = inl (refused (SerdeError cause []) effects r h)
+entry_does i cause effects r e h = grind (arith, refused)
 
 pub inserts_send : (site : Site) (i : Insert) (moves : Moves) (r : Reply) → Runs (opening site (commands.Insert i)) moves r → Inserts (insertion site.cache i) (effects_of moves) r
 inserts_send site i moves r run =
@@ -251,5 +216,4 @@ deletes_send site d moves r run =
 -- ---- errands
 
 pub errands_only_change : (e : Errand) (t : PlainAnswer) → OnlyChanges (effect (errand_step e) t [])
-errands_only_change (make_folder path) t = tt
-errands_only_change e t = tt
+errands_only_change e t = grind (arith, common_steps)

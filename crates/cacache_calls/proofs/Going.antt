@@ -1,5 +1,5 @@
 -- How a run grows step by step.
-use Rattle.std.proofs.{Common.{◌≡◌, ◌⊎◌, inl, inr, List, [], ◌∷◌, ◌++◌, map, Option, Some, None, option_map, false, refl, sym, ◌∙◌, ap, append_assoc, append-nil}, lemmas.List.{map-append}}
+use Rattle.std.proofs.{Common.{arith, ◌≡◌, ◌⊎◌, inl, inr, List, [], ◌∷◌, ◌++◌, map, Option, Some, None, option_map, false, refl, sym, ◌∙◌, ap, append_assoc, append-nil}, lemmas.{Grind.{common_steps}, List.{map-append}}}
 use Rattle.cacache_core.specs.declared.errors.Error.TheVariants.{OutOfMemory}
 use Rattle.cacache_store.specs.{declared.store.log.LogItem.{LogItem, TheVariants.{Made}}, Plain.{PlainStep, PlainAnswer}, Fits.{Fits, Logs, is_no_memory}}
 use Rattle.cacache_store.specs.declared.store.answer.Answer.TheVariants as answers
@@ -11,19 +11,15 @@ made move = Made move.0 move.1
 
 -- memory was refused, or not
 pub answer_cases : (t : PlainAnswer) → ((b : PlainStep) × (t ≡ answers.NoMemory b)) ⊎ (is_no_memory t ≡ false)
-answer_cases (answers.NoMemory b) = inl (b, refl)
-answer_cases t = inr refl
+answer_cases t = grind (arith, common_steps)
 
 -- a log gains one more move
 pub gains_one : (old new : Option (List LogItem)) (moves : Moves) (move : PlainStep × PlainAnswer) → Gains old new moves → Gains old (option_map (λ log. log ++ made move ∷ []) new) (moves ++ move ∷ [])
-gains_one None new moves move e = rw e refl
-gains_one (Some log) new moves move e =
-    rw e (ap Some (append_assoc log (map made moves) (made move ∷ []) ∙ ap (λ more. log ++ more) (sym (map-append made moves (move ∷ [])))))
+gains_one old new moves move e = grind (arith, common_steps)
 
 -- a log gains no move
 pub no_gain : (log : Option (List LogItem)) → Gains log log []
-no_gain None = refl
-no_gain (Some moves) = ap Some (sym (append-nil moves))
+no_gain log = grind (arith, common_steps)
 
 pub goes_on : (s : State) (moves : Moves) (u : State) (a : PlainStep) (t : PlainAnswer) → Goes s moves u → wants u ≡ Some a → Fits a t → Goes s (moves ++ (a, t) ∷ []) (after u t)
 goes_on s [] u a t g w fits = (ap wants g ∙ w, fits, ap (λ (x : State). after x t) g)

@@ -1,5 +1,5 @@
 -- A listing returns what its own steps returned.
-use Rattle.std.proofs.{Common.{◌≡◌, ◌⊎◌, inl, inr, ℕ, ◌+◌, ◌-◌, ◌<◌, List, [], ◌∷◌, ◌++◌, Option, Some, None, Bool, true, false, cond, nat_le, nat_lt, Result, Ok, Err, refl, ap, ◌∙◌, length, take, length-append, append_assoc, append-nil, arith}, lemmas.{Bool.{leb-false}, List.{length-take}}}
+use Rattle.std.proofs.{lemmas.{Grind.{common_steps}, Bool.{leb-false}, List.{length-take}}, Common.{rules, ◌≡◌, ◌⊎◌, inl, inr, ℕ, ◌+◌, ◌-◌, ◌<◌, List, [], ◌∷◌, ◌++◌, Option, Some, None, Bool, true, false, cond, nat_le, nat_lt, Result, Ok, Err, refl, ap, ◌∙◌, length, take, length-append, append_assoc, append-nil, arith}}
 use Rattle.cacache_core.specs.{declared.errors.{Fault.{Fault}, Error.TheVariants.{OutOfMemory}}, Paths.{join}}
 use Rattle.cacache_core.specs.declared.errors.Fault.TheVariants as faults
 use Rattle.cacache_store.specs.{declared.store.answer.{Kind.{Kind}, Name.{Name}}, Plain.{PlainStep, PlainAnswer}}
@@ -28,12 +28,7 @@ lists_append (Make v ∷ a) b h k = (h.0, lists_append a b h.1 k)
 lists_append (Stumble fault path ∷ a) b h k = (h.0, lists_append a b h.1 k)
 
 task_lists : (level : ℕ) (p : List ℕ) (kind : Kind) (todo : List Task) → Lists todo → Lists (task_for_name false level p kind ∷ todo)
-task_lists level p kinds.Folder todo h = by_level (nat_lt level 16)
-  where
-    by_level : (b : Bool) → Lists (cond b (Make (Enter p (level + 1))) (Stumble faults.TooDeep p) ∷ todo)
-    by_level true = (tt, h)
-    by_level false = (refl, h)
-task_lists level p kind todo h = (tt, h)
+task_lists level p kind todo h = grind (arith, common_steps)
 
 tasks_list : (clears : Bool) → clears ≡ false → (level : ℕ) (p : List ℕ) (names : List Name) → Lists (tasks_of clears level p names)
 tasks_list true e level p names = absurd cc
@@ -41,8 +36,7 @@ tasks_list false e level p [] = tt
 tasks_list false e level p (n ∷ ns) = task_lists level (join p n.name) n.kind (tasks_of false level p ns) (tasks_list false refl level p ns)
 
 leaving_lists : (clears : Bool) → clears ≡ false → (level : ℕ) (p : List ℕ) → Lists (leaving clears level p)
-leaving_lists true e level p = absurd cc
-leaving_lists false e level p = tt
+leaving_lists clears e level p = grind (arith, common_steps)
 
 -- ---- what a walk has returned so far, and what its remaining steps return
 
@@ -62,17 +56,14 @@ adds_same [] tail items h = h
 adds_same (x ∷ front) tail items h = inr (front ++ items, refl, adds_same front tail items h)
 
 pick : (P : State → Type 0) (b : Bool) (s t : State) → b ≡ false → P (cond b s t) → P t
-pick P true s t e h = absurd cc
-pick P false s t e h = h
+pick P b s t e h = grind (arith, common_steps)
 
 module _ (r : Reply) where
   no_memory : (w : Walk) (items more : List Item) → Given (over (Refused OutOfMemory)) items r → Gives w more r
-  no_memory w items more (e, inl same) = rw same refl
-  no_memory w items more (e, inr same) = rw same refl
+  no_memory w items more h = grind (arith, common_steps)
 
   ends : (w : Walk) (tail items : List Item) → AddsTooDeep tail [] → Given (over (Listed (w.items ++ tail))) items r → Gives w items r
-  ends w tail items h (e, inl same) = rw (same, e) (inr (tail, refl, h))
-  ends w tail items h (e, inr same) = rw same refl
+  ends w tail items h h2 = grind (arith, common_steps)
 
   too_many_gives : (w : Walk) (items : List Item) → w.clears ≡ false → Given (too_many w) items r → Gives w items r
   too_many_gives w items e h = ends w (too_deep ∷ []) items (inl (refl, refl)) (pick (λ s. Given s items r) w.clears (fails faults.TooDeep) (over (Listed (w.items ++ too_deep ∷ []))) e h)
@@ -89,13 +80,7 @@ module _ (r : Reply) where
       by_end (k, inr same) = rw same refl
 
   adds : (w : Walk) (front items more : List Item) → ((tail : List Item) → AddsTooDeep tail items → AddsTooDeep (front ++ tail) more) → Gives (record w { items = w.items ++ front }) items r → Gives w more r
-  adds w front items more k = by_reply r
-    where
-      by_reply : (r : Reply) → Gives (record w { items = w.items ++ front }) items r → Gives w more r
-      by_reply (Listed list) (inl long) = inl long
-      by_reply (Listed list) (inr h) = inr (front ++ h.0, h.1 ∙ append_assoc w.items front h.0, k h.0 h.2)
-      by_reply (Refused e) h = h
-      by_reply r h = absurd h
+  adds w front items more k = grind (arith, common_steps)
 
   gives : (w : Walk) (front items more : List Item) (next : Walk → State) → w.clears ≡ false → ((tail : List Item) → AddsTooDeep tail items → AddsTooDeep (front ++ tail) more) → ((v : Walk) → v.clears ≡ false → Given (next v) items r → Gives v items r) → Given (give w front next) items r → Gives w more r
   gives w front items more next e k n h =
@@ -147,9 +132,7 @@ given_before (over reply) t items r = λ h. h
 given_before s t items r = λ h. tt
 
 memory_gives : (s : State) → Given s [] (Refused OutOfMemory)
-memory_gives (walking w v todo) = λ e k l. refl
-memory_gives (over reply) = (refl, inr refl)
-memory_gives s = tt
+memory_gives s = grind (arith, common_steps)
 
 runs_give : (s : State) (moves : Moves) (r : Reply) → Runs s moves r → Given s (items_given moves) r
 runs_give s [] r (inl e) = rw e (refl, inl refl)
@@ -159,9 +142,4 @@ runs_give s (m ∷ moves) r run =
     rw run.0 at h
 
 pub lists_shown : (site : Site) (moves : Moves) (r : Reply) → Runs (opening site commands.Ls) moves r → ListsGiven (items_given moves) r
-lists_shown site moves r run = by_reply r (runs_give (opening site commands.Ls) moves r run refl tt tt)
-  where
-    by_reply : (r : Reply) → Gives (record { clears = false; items = []; left = most }) (items_given moves) r → ListsGiven (items_given moves) r
-    by_reply (Listed list) (inl long) = inl long
-    by_reply (Listed list) (inr h) = inr (rw h.1 h.2)
-    by_reply r h = h
+lists_shown site moves r run = search (rules, runs_give)

@@ -1,5 +1,5 @@
 -- The replies of lookups and reads follow from the answers to their own steps.
-use Rattle.std.proofs.{Common.{◌≡◌, ◌⊎◌, inl, inr, ℕ, List, [], ◌∷◌, Option, Some, None, Bool, true, false, cond, Result, Ok, Err, refl, sym, ◌∙◌}, lemmas.Option.{same_Some}}
+use Rattle.std.proofs.{Common.{arith, rules, ◌≡◌, ◌⊎◌, inl, inr, ℕ, List, [], ◌∷◌, Option, Some, None, Bool, true, false, cond, Result, Ok, Err, refl, sym, ◌∙◌}, lemmas.{Grind.{common_steps}, Option.{same_Some}}}
 use Rattle.cacache_core.specs.declared.errors.Fault.TheVariants as faults
 use Rattle.cacache_core.specs.{declared.{errors.{IntegrityFault.TheVariants.{Check}, Error.TheVariants.{EntryNotFound, IntegrityError, OutOfMemory}}, integrity.digest.Hash.{Hash}}, Integrity.{Meets, actual}, Meeting.{meets}}
 use Rattle.cacache_core.proofs.Meeting.{meets_finds}
@@ -21,11 +21,7 @@ over_run reply (m ∷ moves) r run = absurd (let e : None ≡ Some m.0 = run.0 i
 pub one_step : (s : State) (step : PlainStep) (reply : PlainAnswer → Reply) → wants s ≡ Some step → ((t : PlainAnswer) → after s t ≡ over (reply t)) → (moves : Moves) (r : Reply) → Runs s moves r → OrMemory (OneStep step reply moves r) r
 one_step s step reply w ends [] r (inl e) = absurd (let none : None ≡ Some step = rw e at w in cc)
 one_step s step reply w ends [] r (inr e) = inl e
-one_step s step reply w ends (m ∷ moves) r run =
-    elim (over_run (reply m.1) moves r (rw ends at run.2)) [
-      | inl e ↦ inl e
-      | inr h ↦ inr (m.1, (let same : m.0 ≡ step = same_Some _ _ (sym run.0 ∙ w) in rw (same, h.0) refl), h.1)
-    ]
+one_step s step reply w ends (m ∷ moves) r run = search (rules, over_run)
 
 -- a call that is over ends with its reply, or out of memory
 over_ends : (reply : Reply) (moves : Moves) (r : Reply) → Runs (over reply) moves r → (moves ≡ []) × ((r ≡ reply) ⊎ (r ≡ Refused OutOfMemory))
@@ -49,9 +45,7 @@ look site key = record { cache = site.cache; key = key; aim = aims.Report }
 
 found_after : (site : Site) (key : List ℕ) (a : Result (List ℕ) Refusal) → go_on a (no_bucket (look site key)) (after_bucket (look site key)) ≡ over (find_reply key (entries_shown a))
 unfolding found_in
-found_after site key (Ok bytes) = refl
-found_after site key (Err (refusals.Fault faults.NotFound)) = refl
-found_after site key a = refl
+found_after site key a = grind (arith, common_steps)
 
 pub finds_shown : (site : Site) (key : List ℕ) (moves : Moves) (r : Reply) → Runs (opening site (commands.Find key)) moves r → OrMemory (ReadsBucketOnce site.cache key moves r) r
 finds_shown site key moves r run = one_step (looking (look site key)) (steps.ReadAll (bucket_path site.cache key)) (λ t. find_reply key (bucket_shown t)) refl (λ t. found_after site key (bytes_in t)) moves r run
@@ -66,16 +60,10 @@ abbrev content : List ℕ → List Hash → Content
 content cache i = record { cache = cache; integrity = i }
 
 checked_is : (k : Content) (bytes : List ℕ) → checked k bytes ≡ over (content_reply k.integrity (Ok bytes))
-checked_is k bytes = by_test (meets k.integrity bytes)
-  where
-    by_test : (b : Bool) → cond b (over (Read bytes)) (ends_with (IntegrityError (Check k.integrity (actual k.integrity bytes)))) ≡ over (cond b (Read bytes) (Refused (IntegrityError (Check k.integrity (actual k.integrity bytes)))))
-    by_test true = refl
-    by_test false = refl
+checked_is k bytes = search rules
 
 read_after : (k : Content) (a : Result (List ℕ) Refusal) → go_on a fails (checked k) ≡ over (content_reply k.integrity a)
-read_after k (Ok bytes) = checked_is k bytes
-read_after k (Err (refusals.Fault fault)) = refl
-read_after k (Err refusals.Memory) = refl
+read_after k a = grind (arith, checked_is)
 
 content_shown : (cache : List ℕ) (i : List Hash) (moves : Moves) (r : Reply) → Runs (reading (content cache i)) moves r → OrMemory (ReadsContentOnce cache i moves r) r
 content_shown cache i moves r run = one_step (reading (content cache i)) (steps.ReadAll (content_path cache i)) (λ t. content_reply i (bytes_in t)) refl (λ t. read_after (content cache i) (bytes_in t)) moves r run
@@ -84,9 +72,7 @@ pub reads_shown : (site : Site) (i : List Hash) (moves : Moves) (r : Reply) → 
 reads_shown site i moves r run = content_shown site.cache i moves r run
 
 asked_after : (a : Result Bool Refusal) → go_on a answer_absent answer_there ≡ over (there_reply a)
-asked_after (Ok there) = refl
-asked_after (Err (refusals.Fault fault)) = refl
-asked_after (Err refusals.Memory) = refl
+asked_after a = grind (arith, common_steps)
 
 pub exists_shown : (site : Site) (i : List Hash) (moves : Moves) (r : Reply) → Runs (opening site (commands.Exists i)) moves r → OrMemory (AsksContentOnce site.cache i moves r) r
 exists_shown site i moves r run = one_step (asking (content site.cache i)) (steps.Exists (content_path site.cache i)) (λ t. there_reply (there_in t)) refl (λ t. asked_after (there_in t)) moves r run
@@ -97,15 +83,11 @@ abbrev look_to_read : List ℕ → List ℕ → Lookup
 look_to_read cache key = record { cache = cache; key = key; aim = aims.Read }
 
 found_shown : (cache key : List ℕ) (found : Option Found) (moves : Moves) (r : Reply) → Runs (found_for (look_to_read cache key) aims.Read found) moves r → OrMemory (ReadsOn cache key (Ok found) moves r) r
-found_shown cache key (Some f) moves r run = content_shown cache f.integrity moves r run
-found_shown cache key None moves r run = over_run (Refused (EntryNotFound cache key)) moves r run
+found_shown cache key found moves r run = grind (arith, content_shown, over_run)
 
 bucket_read : (cache key : List ℕ) (a : Result (List ℕ) Refusal) (moves : Moves) (r : Reply) → Runs (go_on a (no_bucket (look_to_read cache key)) (after_bucket (look_to_read cache key))) moves r → OrMemory (ReadsOn cache key (lookup key (entries_shown a)) moves r) r
 unfolding found_in
-bucket_read cache key (Ok bytes) moves r run = found_shown cache key (found_in key bytes) moves r run
-bucket_read cache key (Err (refusals.Fault faults.NotFound)) moves r run = found_shown cache key None moves r run
-bucket_read cache key (Err (refusals.Fault fault)) moves r run = over_run (refusal_reply (refusals.Fault fault)) moves r run
-bucket_read cache key (Err refusals.Memory) moves r run = over_run (Refused OutOfMemory) moves r run
+bucket_read cache key a moves r run = grind (arith, found_shown, over_run)
 
 pub gets_shown : (site : Site) (key : List ℕ) (moves : Moves) (r : Reply) → Runs (opening site (commands.Get key)) moves r → OrMemory (ReadsByKey site.cache key moves r) r
 gets_shown site key [] r (inl e) = absurd cc
@@ -119,22 +101,10 @@ gets_shown site key (m ∷ moves) r run =
 -- ---- the verified read by key
 
 meeting : (i : List Hash) (a : Result (List ℕ) Refusal) (bytes : List ℕ) → Read bytes ≡ content_reply i a → Meets i bytes
-meeting i (Ok b) bytes e = by_test (meets i b) refl e
-  where
-    by_test : (v : Bool) → meets i b ≡ v → Read bytes ≡ cond v (Read b) (Refused (IntegrityError (Check i (actual i b)))) → Meets i bytes
-    by_test true m e = let same : bytes ≡ b = cc in rw same ((meets_finds i b).0 m)
-    by_test false m e = absurd cc
-meeting i (Err (refusals.Fault fault)) bytes e = absurd cc
-meeting i (Err refusals.Memory) bytes e = absurd cc
+meeting i a bytes e = grind (arith, meets_finds)
 
 on_meets : (cache key : List ℕ) (look : Result (Option Found) Refusal) (more : Moves) (bytes : List ℕ) → ReadsOn cache key look more (Read bytes) → (found : Found) × (look ≡ Ok (Some found)) × Meets found.integrity bytes
-on_meets cache key (Ok (Some f)) more bytes h = (f, refl, meeting f.integrity (bytes_in h.0) bytes h.2)
-on_meets cache key (Err (refusals.Fault fault)) more bytes h = absurd cc
-on_meets cache key look more bytes h = absurd cc
+on_meets cache key look more bytes h = grind (arith, meeting)
 
 pub gets_meet : (site : Site) (key : List ℕ) (moves : Moves) (bytes : List ℕ) → Runs (opening site (commands.Get key)) moves (Read bytes) → (t : PlainAnswer) × (more : Moves) × BeginsWithBucket site.cache key t more moves × MeetsFound key t bytes
-gets_meet site key moves bytes run =
-    elim (gets_shown site key moves (Read bytes) run) [
-      | inl e ↦ absurd cc
-      | inr h ↦ (h.0, h.1, h.2, on_meets site.cache key (lookup key (bucket_shown h.0)) h.1 bytes h.3)
-    ]
+gets_meet site key moves bytes run = search (rules, gets_shown, on_meets)

@@ -1,5 +1,5 @@
 -- Sound states make allowed steps, and stay sound.
-use Rattle.std.proofs.{Common.{◌≡◌, inl, inr, ℕ, ◌+◌, ◌<◌, ◌^◌, ◌==◌, List, [], ◌∷◌, ◌++◌, Option, Some, None, Bool, true, false, Ok, refl, ap, ap₂, sym, subst, ◌∙◌, length, length-append, arith}, lemmas.List.Elements.{All-append, All-nil, All-cons, All-weaker}}
+use Rattle.std.proofs.{lemmas.{Grind.{common_steps}, List.Elements.{All-append, All-nil, All-cons, All-weaker}}, Common.{rules, ◌≡◌, inl, inr, ℕ, ◌+◌, ◌<◌, ◌^◌, ◌==◌, List, [], ◌∷◌, ◌++◌, Option, Some, None, Bool, true, false, Ok, refl, ap, ap₂, sym, subst, ◌∙◌, length, length-append, arith}}
 use Rattle.cacache_core.specs.{declared.{errors.{SerdeCause.{SerdeCause}, IntegrityFault.TheVariants.{Check}, Error.TheVariants.{SizeMismatch, IntegrityError}}, integrity.digest.Hash.{Hash}}, Integrity.{actual}, Paths.{index_area, join, joined}, PathNames.{IsProperName}, Meeting.{meets}}
 use Rattle.cacache_store.specs.{declared.store.{plain.{PlainTemp.{PlainTemp}, PlainFile.{PlainFile}}, answer.Name.{Name}}, Plain.{PlainStep, PlainAnswer}, Fits.{Fits, AreProperNames}}
 use Rattle.cacache_store.specs.declared.store.answer.Answer.TheVariants as answers
@@ -30,42 +30,34 @@ module _ (site : Site) (apart outside : List ℕ → Bool) where
   -- ---- commits
 
   inserts : (i : Insertion) (cause : Option SerdeCause) → refused_cause i ≡ cause → SoundInsertion site i → Is (unless_refused i cause)
-  inserts i None e h = (inr (inr (i.entry.key, ap (λ c. bucket_folder c i.entry.key) h.here)), (h, e))
-  inserts i (Some cause) e h = tt
+  inserts i cause e h = grind (arith, common_steps)
 
   by_key : (c : Commit) (key : Option (List ℕ)) → c.key ≡ key → SoundCommit site c → Is (indexed c key)
-  by_key c None e h = tt
-  by_key c (Some key) e h = inserts (insertion_of c key) (refused_cause (insertion_of c key)) refl (record { here = h.here; formed = h.formed key e })
+  by_key c key e h = grind (arith, inserts)
 
   by_size : (c : Commit) (size : Option ℕ) → SoundCommit site c → Is (sized c size)
-  by_size c None h = by_key c c.key refl h
-  by_size c (Some wanted) h = cond_leads Is (wanted == c.count) (indexed c c.key) (ends_with (SizeMismatch wanted c.count)) (λ _. by_key c c.key refl h) (λ _. tt)
+  by_size c size h = grind (arith, by_key, cond_leads)
 
   by_integrity : (c : Commit) (expected : Option (List Hash)) → SoundCommit site c → Is (compared c expected)
-  by_integrity c None h = by_size c c.options.size h
-  by_integrity c (Some expected) h = cond_leads Is (matches expected c.computed) (sized c c.options.size) (ends_with (IntegrityError (Check expected c.computed))) (λ _. by_size c c.options.size h) (λ _. tt)
+  by_integrity c expected h = grind (arith, by_size, cond_leads)
 
   places : (c : Commit) → SoundCommit site c → Is (placed c)
   places c h = by_integrity c c.options.integrity h
 
   -- the temporary file that an answer returns
   made_temp : (p : List ℕ) (t : PlainAnswer) (file : PlainTemp) → Fits (steps.CreateTemp p) t → temp_in t ≡ Ok file → file.path ≡ p
-  made_temp p (answers.Temp g) file fits e = let same : g ≡ file = cc in rw (← same) fits
-  made_temp p t file fits e = absurd cc
+  made_temp p t file fits e = grind (arith, common_steps)
 
   written_temp : (old : PlainTemp) (bytes : List ℕ) (t : PlainAnswer) (w : PlainTemp × ℕ) → Fits (steps.Write old bytes) t → written_in t ≡ Ok w → w.0.path ≡ old.path
-  written_temp old bytes (answers.Wrote g n) w fits e = let same : (g, n) ≡ w = cc in rw (← same) fits.1
-  written_temp old bytes t w fits e = absurd cc
+  written_temp old bytes t w fits e = grind (arith, common_steps)
 
   synced_temp : (old : PlainTemp) (t : PlainAnswer) (file : PlainTemp) → Fits (steps.SyncTemp old) t → synced_in t ≡ Ok file → file.path ≡ old.path
-  synced_temp old (answers.Synced g) file fits e = let same : g ≡ file = cc in ap (λ (f : PlainTemp). f.path) (sym same ∙ fits)
-  synced_temp old t file fits e = absurd cc
+  synced_temp old t file fits e = grind (arith, common_steps)
 
   -- ---- exports and links
 
   exports_from : (how : How) (from to : List ℕ) (count : Option ℕ) → apart to ≡ true → Is (export_from how from to count)
-  exports_from Copy from to count h = h
-  exports_from how from to count h = (h, tt)
+  exports_from how from to count h = grind (arith, common_steps)
 
   exports : (k : Content) (e : Export) → apart e.to ≡ true → Is (export k e)
   exports k e h = cond_leads Is e.checked (opening_file (to_verify k e)) (export_content k e None) (λ _. h) (λ _. exports_from e.how (content_path k.cache k.integrity) e.to None h)
@@ -74,10 +66,7 @@ module _ (site : Site) (apart outside : List ℕ → Bool) where
   links t bytes h lt = record { here = h.here; bytes = bytes; computed_of = refl; formed = h.formed bytes lt }
 
   hashes : (h : Hashing) (bytes : List ℕ) → SoundHashing site apart outside h → length bytes < 2 ^ 64 → Is (hashed h bytes)
-  hashes (to_verify k e) bytes s lt =
-      cond_leads Is (meets k.integrity bytes) (export_content k e (Some (length bytes))) (ends_with (IntegrityError (Check k.integrity (actual k.integrity bytes))))
-      (λ _. exports_from e.how (content_path k.cache k.integrity) e.to (Some (length bytes)) s) (λ _. tt)
-  hashes (to_link t) bytes s lt = let c = links t bytes s.0 lt in (folder_at (commit_for t bytes) c, (c, s.1))
+  hashes h bytes s lt = grind (arith, cond_leads, exports_from, links, folder_at)
 
   reads_on : (h : Hashing) (bytes : List ℕ) (left : ℕ) (file : PlainFile) (more : List ℕ) → SoundHashing site apart outside h → left + length bytes < 2 ^ 64 → file.left + length more ≡ left → Is (after_read h bytes (file, more))
   reads_on h bytes left file [] s lt e = hashes h bytes s (omega arith)
@@ -86,14 +75,10 @@ module _ (site : Site) (apart outside : List ℕ → Bool) where
   -- ---- lookups
 
   removes : (cache key : List ℕ) (found : Option Found) → cache ≡ site.cache → Is (remove_found cache key found)
-  removes cache key (Some f) e = (inl (f.integrity, ap (λ c. content_path c f.integrity) e), (inr (inl (key, ap (λ c. bucket_path c key) e)), tt))
-  removes cache key None e = (inr (inl (key, ap (λ c. bucket_path c key) e)), tt)
+  removes cache key found e = grind (arith, common_steps)
 
   founds : (l : Lookup) (aim : Aim) (found : Option Found) → l.cache ≡ site.cache → SoundAim site apart outside aim → Is (found_for l aim found)
-  founds l aims.Remove found e h = removes l.cache l.key found e
-  founds l aims.Read (Some f) e h = e
-  founds l (aims.Export x) (Some f) e h = exports (found_content l f) x h
-  founds l aim found e h = tt
+  founds l aim found e h = grind (arith, removes, exports)
 
   -- ---- walks
 
@@ -107,12 +92,10 @@ module _ (site : Site) (apart outside : List ℕ → Bool) where
 
   -- what a fitting answer says about the names
   named : (p : List ℕ) (t : PlainAnswer) (names : List Name) → Fits (steps.ReadDir p) t → names_in t ≡ Ok names → AreProperNames names
-  named p (answers.Names given) names fits e = let same : given ≡ names = cc in rw (← same) fits
-  named p t names fits e = absurd cc
+  named p t names fits e = grind (arith, common_steps)
 
   may_meet : (clears : Bool) (level : ℕ) (p : List ℕ) → IsBelow site p → (n : Name) → IsProperName n.name → MayMeet (SoundVisit site) level p clears n
-  may_meet true level p h n proper = let k = below_more p n.name proper h in (k, k)
-  may_meet false level p h n proper = let k = below_more p n.name proper h in (k, k)
+  may_meet clears level p h n proper = grind (arith, below_more)
 
   -- ---- a command may begin
 
@@ -133,47 +116,22 @@ module _ (site : Site) (apart outside : List ℕ → Bool) where
   -- ---- its steps
 
   visit_allowed : (v : Visit) → SoundVisit site v → Allowed site apart outside (visit_step v)
-  visit_allowed (RemoveFile p) h = inr (inr h)
-  visit_allowed (RemoveFolder p) h = h
-  visit_allowed v h = tt
+  visit_allowed v h = grind (arith, common_steps)
 
   line_at : (i : Insertion) → SoundInsertion site i → refused_cause i ≡ None → IsLine site (bucket_path i.cache i.entry.key) (bucket_line i)
   unfolding bucket_line refused_cause
   line_at i h none = (i.entry, i.durable, h.formed none, none, ap (λ c. bucket_path c i.entry.key) h.here, refl)
 
   pub steps_allowed : (s : State) (step : PlainStep) → Is s → wants s ≡ Some step → Allowed site apart outside step
-  steps_allowed (doing errand s) step h e = some_is (Allowed site apart outside) _ step e h.0
-  steps_allowed (creating number c rest) step h e = some_is (Allowed site apart outside) _ step e (ap₂ temp_path h.1.here h.0)
-  steps_allowed (writing c file rest) step h e = some_is (Allowed site apart outside) _ step e h.1
-  steps_allowed (syncing c file) step h e = some_is (Allowed site apart outside) _ step e h.1
-  steps_allowed (persisting c file) step h e = some_is (Allowed site apart outside) _ step e (h.1, content_at c h.0)
-  steps_allowed (linking c target) step h e = some_is (Allowed site apart outside) _ step e (h.1, content_at c h.0)
-  steps_allowed (appending i) step h e = some_is (Allowed site apart outside) _ step e (line_at i h.0 h.1)
-  steps_allowed (copying from to count) step h e = some_is (Allowed site apart outside) _ step e h
-  steps_allowed (walking w v todo) step h e = some_is (Allowed site apart outside) _ step e (visit_allowed v h.0)
-  steps_allowed (over reply) step h e = absurd cc
-  steps_allowed s step h e = some_is (Allowed site apart outside) _ step e tt
+  steps_allowed s step h e = grind (arith, some_is, content_at, line_at, visit_allowed)
 
   -- ---- the states after them
 
   commits_sound : ClosedCommit Fits Is
-  commits_sound = record {
-    created = λ number c rest file b h. (h.1, made_temp (temp_path c.cache number) b.0 file b.1 b.2 ∙ ap₂ temp_path h.1.here h.0);
-    wrote = λ c file rest w b h. (h.0, written_temp file rest b.0 w b.1 b.2 ∙ h.1);
-    moved = λ c file h. ((folder_at c h.0, h), (folder_at c h.0, h));
-    synced = λ c file new b h. (h.0, synced_temp file b.0 new b.1 b.2 ∙ h.1);
-    persisted = λ c file fault h. h.0;
-    linked = λ c target fault h. h.0;
-    there = λ c fault h. (places c h, λ p s k. ((tt, k), (tt, k)));
-  }
+  commits_sound = search (rules, made_temp, written_temp, folder_at, synced_temp, places)
 
   files_sound : ClosedFiles Fits Is
-  files_sound = record {
-    sized = λ t n h. (record { here = h.0.here; formed = h.0.formed }, h.1);
-    opened = λ x file b h. (h, omega (arith, opened (hashed_path x) b.0 file b.1 b.2));
-    got = λ x file bytes g b h. reads_on x bytes file.left g.0 g.1 h.0 h.1 (left_after file b.0 g b.1 b.2);
-    copied = λ from to count n h. tt;
-  }
+  files_sound = search (rules, opened, reads_on, left_after)
 
   walks_sound : ClosedWalk Fits Is AnyWalk (SoundVisit site)
   walks_sound = record {
@@ -186,14 +144,7 @@ module _ (site : Site) (apart outside : List ℕ → Bool) where
   }
 
   closed : Closed Fits Is AnyWalk (SoundVisit site)
-  closed = record {
-    ends = record { failed = λ s fault h. tt; memory = λ s h. tt; errand = λ e s h. h.1 };
-    commits = commits_sound;
-    inserts = λ i h. (tt, λ p s k. ((tt, k), (tt, k)));
-    reads = record { found = λ l found h. founds l l.aim found h.0 h.1; met = λ k bytes e h. tt; unmet = λ k bytes h. tt; asked = λ k there h. tt };
-    files = files_sound;
-    walks = walks_sound;
-  }
+  closed = search (rules, commits_sound, inserts, founds, files_sound, walks_sound)
 
   pub stays_sound : (s : State) (step : PlainStep) (t : PlainAnswer) → Is s → wants s ≡ Some step → Fits step t → Is (after s t)
   stays_sound s step t h e f = kept Fits Is AnyWalk (SoundVisit site) closed s step t h e f

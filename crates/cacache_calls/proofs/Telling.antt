@@ -1,5 +1,5 @@
 -- A value prints as UTF-8, with names in order and numbers in range, because its parts do.
-use Rattle.std.proofs.{Common.{◌≡◌, ℕ, pos, negsuc, List, [], ◌∷◌, Bool, true, false, refl, arith, string_bytes, String, Global, BTreeMap, string_cmp, Less, Vec, subst, sym, rules}, lemmas.{Bool.{or_parts}, Fmt.{IsAscii-decimal, IsAscii-signed}, Str.{IsUtf8-append, IsUtf8-from_ascii, IsUtf8-nil, IsUtf8-string_bytes}}}
+use Rattle.std.proofs.{lemmas.{Grind.{common_steps}, Bool.{or_parts}, Fmt.{IsAscii-decimal, IsAscii-signed}, Str.{IsUtf8-append, IsUtf8-from_ascii, IsUtf8-nil, IsUtf8-string_bytes}}, Common.{◌≡◌, ℕ, pos, negsuc, List, [], ◌∷◌, Bool, true, false, refl, arith, string_bytes, String, Global, BTreeMap, string_cmp, Less, Vec, subst, sym, rules}}
 use Rattle.std.specs.{Prelude.{IsUtf8, decimal}, Fmt.{signed_decimal}, List.{AllByRecursion, Sorted.{IsStrictlySortedBy}}, Map.{keys_of}}
 use Rattle.json.{specs.Print.{quoted}, proofs.Printed.Utf8.{IsUtf8-are_ascii, IsUtf8-quoted}}
 use Rattle.serde_json.specs.{Data.{Num, unsigned, negative, float, null, boolean, number, string, array, object, Items, no_items, item, Members, no_members, member}, Written.{comma_if, compact_text, number_text, items_text, members_text, has_float, items_have_float, members_have_float}, View.{view, number_view, items_view, members_view}, declared.{number.Number.{Number}, value.Value.{Value, the_lemmas}}}
@@ -21,9 +21,7 @@ IsUtf8-number (negative (pos _)) h = elim h [ ]
 IsUtf8-number (float x) h = IsUtf8-nil
 
 whole_number : (n : Num) → IsRanged n → has_float (number n) ≡ false → IsWholeNumber n
-whole_number (negative (pos _)) h e = elim h [ ]
-whole_number (float x) h e = absurd cc
-whole_number n h e = h
+whole_number n h e = grind (arith, common_steps)
 
 -- a number in range is JSON
 pub IsJson-number : (n : Num) → IsRanged n → IsJson (number n)

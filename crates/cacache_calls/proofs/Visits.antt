@@ -1,5 +1,6 @@
 -- What holds of each visit among a walk's tasks.
-use Rattle.std.{proofs.{Common.{ℕ, ◌+◌, ◌==◌, Bool, true, false, cond, List, [], ◌∷◌, ◌++◌}, lemmas.List.Elements.{All-head, All-tail}}, specs.Prelude.{All, nat_lt}}
+use Rattle.std.proofs.{Common.{arith, rules, ℕ, ◌+◌, ◌==◌, Bool, true, false, cond, List, [], ◌∷◌, ◌++◌}, lemmas.{Grind.{common_steps}, List.Elements.{All-head, All-tail}}}
+use Rattle.std.specs.Prelude.{All, nat_lt}
 use Rattle.cacache_core.specs.declared.errors.Fault.TheVariants as faults
 use Rattle.cacache_core.specs.Paths.{join}
 use Rattle.cacache_store.specs.declared.store.answer.{Kind.{Kind}, Name.{Name}}
@@ -28,14 +29,10 @@ module _ (V : Visit → Type 0) (level : ℕ) (p : List ℕ) where
   MayMeet clears n = V (Enter (join p n.name) (level + 1)) × V (cond clears (RemoveFile (join p n.name)) (ReadBucket (join p n.name)))
 
   one_of : (b : Bool) (x y : Task) → EachVisit V (x ∷ []) → EachVisit V (y ∷ []) → EachVisit V (cond b x y ∷ [])
-  one_of true x y h k = h
-  one_of false x y h k = k
+  one_of b x y h k = grind (arith, common_steps)
 
   each_kind : (b : Bool) (q : List ℕ) (kind : Kind) → V (Enter q (level + 1)) → V (cond b (RemoveFile q) (ReadBucket q)) → EachVisit V (task_for_name b level q kind ∷ [])
-  each_kind b q kinds.Folder h k = one_of (nat_lt level 16) (Make (Enter q (level + 1))) (Stumble faults.TooDeep q) (h, tt) tt
-  each_kind false q kinds.Link h k = (k, tt)
-  each_kind true q kinds.File h k = one_of (level == 0) (Stumble faults.NotADirectory q) (Make (RemoveFile q)) tt (k, tt)
-  each_kind b q kind h k = (k, tt)
+  each_kind b q kind h k = grind (arith, one_of)
 
   pub each_name : (b : Bool) (names : List Name) → All (MayMeet b) names → EachVisit V (tasks_of b level p names)
   each_name b [] h = tt
@@ -44,8 +41,4 @@ module _ (V : Visit → Type 0) (level : ℕ) (p : List ℕ) where
       each_append V (task_for_name b level (join p n.name) n.kind ∷ []) (tasks_of b level p ns) (each_kind b (join p n.name) n.kind k.0 k.1) (each_name b ns (All-tail (MayMeet b) n ns h))
 
   pub each_leaving : V (RemoveFolder p) → EachVisit V (leaving true level p)
-  each_leaving h = by (level == 0)
-    where
-      by : (b : Bool) → EachVisit V (cond b [] (Make (RemoveFolder p) ∷ []))
-      by true = tt
-      by false = (h, tt)
+  each_leaving h = search rules

@@ -25,12 +25,4 @@ FormsCommand site (commands.Link l) =
     (bytes : List ℕ) → length bytes < 2 ^ 64 → FormsCommit (commit_for (link_target site l) bytes)
 FormsCommand site (commands.Insert i) = FormedIfWritten (insertion site.cache i)
 FormsCommand site (commands.Delete d) = FormedIfWritten (deletion site.cache d)
-FormsCommand site (commands.Find key) = Unit {0}
-FormsCommand site (commands.Get key) = Unit {0}
-FormsCommand site (commands.GetHash i) = Unit {0}
-FormsCommand site (commands.Exists i) = Unit {0}
-FormsCommand site (commands.Export source e) = Unit {0}
-FormsCommand site (commands.RemoveHash i) = Unit {0}
-FormsCommand site (commands.RemoveFully key) = Unit {0}
-FormsCommand site commands.Ls = Unit {0}
-FormsCommand site commands.Clear = Unit {0}
+FormsCommand site command = Unit {0}

@@ -13,6 +13,7 @@ pub mod Exporting
 pub mod Linking
 pub mod Looking
 pub mod Walking
+pub mod Commands
 pub mod Table
 pub mod Runs
 pub mod SingleSteps

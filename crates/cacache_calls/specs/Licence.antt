@@ -2,27 +2,11 @@
 use Rattle.std.specs.Prelude.{[], ◌∷◌, Bool, true, false, if◌then◌else◌}
 use Rattle.cacache_store.specs.declared.store.step.Step.TheVariants as steps
 use Rattle.cacache_store.specs.Plain.{PlainStep}
-use Rattle.cacache_calls.specs.{declared.{command.Command.{Command}, reply.Reply.{Reply}}, Runs.{Moves, Runs}, State.{Site}, Table.{opening}}
+use Rattle.cacache_calls.specs.{declared.{command.Command.{Command}, reply.Reply.{Reply}}, Runs.{Moves, Runs}, State.{Site}}
 use Rattle.cacache_calls.specs.declared.command.Command.TheVariants as commands
+pub use Rattle.cacache_calls.specs.Commands.{Licence, looking_up, licence, opening}
 
 -- ---- permissions
-
--- the kinds of steps that a call may make; it may always read a file or check that one exists
-pub record Licence : Type 0 where
-  -- makes folders, and syncs files and folders
-  pub prepares : Bool
-  -- writes a temporary file, and moves it to a content's path
-  pub commits : Bool
-  -- makes a symbolic link at a content's path
-  pub links : Bool
-  -- appends to a bucket
-  pub inserts : Bool
-  -- lists folders
-  pub lists : Bool
-  -- copies a content to a second path, or links it there
-  pub exports : Bool
-  -- removes files and folders
-  pub removes : Bool
 
 -- it is allowed
 abbrev pub May : Bool → Type 0
@@ -54,18 +38,6 @@ allows l (steps.SyncDir p) = l.prepares
 
 -- ---- licences
 
--- only to read files and to check that they exist
-abbrev pub looking_up : Licence
-looking_up = record {
-  prepares = false;
-  commits = false;
-  links = false;
-  inserts = false;
-  lists = false;
-  exports = false;
-  removes = false;
-}
-
 -- it may also list folders: nothing in the store changes
 abbrev pub looking_on : Licence
 looking_on = record looking_up { lists = true }
@@ -77,22 +49,6 @@ handing_out = record looking_on { exports = true }
 -- it may also add bytes and entries, but it exports, links and removes nothing
 abbrev pub taking_in : Licence
 taking_in = record looking_on { prepares = true; commits = true; inserts = true }
-
--- what each command may do
-abbrev pub licence : Command → Licence
-licence (commands.Put p) = record looking_up { prepares = true; commits = true; inserts = true }
-licence (commands.Link l) = record looking_up { prepares = true; links = true; inserts = true }
-licence (commands.Insert i) = record looking_up { prepares = true; inserts = true }
-licence (commands.Delete d) = record looking_up { prepares = true; inserts = true }
-licence (commands.Find key) = looking_up
-licence (commands.Get key) = looking_up
-licence (commands.GetHash i) = looking_up
-licence (commands.Exists i) = looking_up
-licence commands.Ls = looking_on
-licence (commands.Export source e) = record looking_up { exports = true }
-licence (commands.RemoveHash i) = record looking_up { removes = true }
-licence (commands.RemoveFully key) = record looking_up { removes = true }
-licence commands.Clear = record looking_up { lists = true; removes = true }
 
 -- the second allows what the first does, and the rest holds
 abbrev pub as_far : Bool → Bool → Bool → Bool

@@ -151,23 +151,13 @@ Promises (over reply) r = Only reply r
 
 -- ---- calls
 
--- what a command at this site promises of its reply
+-- what a command at this site promises of its reply: what its first state does, and of these three a little more
 abbrev pub Answers : Site → Command → Reply → Type 0
-Answers site (commands.Put p) r = Stores (put_commit site.cache p) r
-Answers site (commands.Link l) r = StoresSized (link_target site l) r
 Answers site (commands.Insert i) r = Only (Stored (given_or no_integrity i.options.integrity)) r
 Answers site (commands.Delete d) r = Only Done r
-Answers site (commands.Find key) r = OnlyLooksUp r
-Answers site (commands.Get key) r = OnlyReads r
-Answers site (commands.GetHash i) r = ReadsMeeting i r
-Answers site (commands.Exists i) r = OnlyExists r
-Answers site commands.Ls r = OnlyLists r
-Answers site (commands.Export (sources.Key key) e) r = Exports e.how r
 Answers site (commands.Export (sources.Hash i) e) r =
     Exports e.how r × (e.checked ≡ true → MadeOf i [] r)
-Answers site (commands.RemoveHash i) r = Only Done r
-Answers site (commands.RemoveFully key) r = Only Done r
-Answers site commands.Clear r = Only Done r
+Answers site command r = Promises (opening site command) r
 
 -- ---- laws
 

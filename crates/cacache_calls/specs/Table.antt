@@ -7,6 +7,7 @@ use Rattle.cacache_calls.specs.{declared.{command.Command.{Command}, reply.Reply
 use Rattle.cacache_calls.specs.declared.command.Command.TheVariants as commands
 use Rattle.cacache_calls.specs.declared.command.Source.TheVariants as sources
 use Rattle.cacache_calls.specs.declared.carried.Aim.TheVariants as aims
+pub use Rattle.cacache_calls.specs.Commands.{opening}
 
 -- the most bytes that one read requests
 abbrev pub piece : ℕ
@@ -53,25 +54,3 @@ after (copying from to verified) t =
     go_on (taken_in t) fails (λ n. over (Copied (copied_count verified n)))
 after (walking w v todo) t = after_visit w v todo t
 after (over reply) t = over reply
-
--- the first state of a call
-abbrev pub opening : Site → Command → State
-opening site (commands.Put p) = store site p
-opening site (commands.Link l) = sizing (link_target site l)
-opening site (commands.Insert i) = insert (insertion site.cache i)
-opening site (commands.Delete d) = insert (deletion site.cache d)
-opening site (commands.Find key) =
-    looking (record { cache = site.cache; key = key; aim = aims.Report })
-opening site (commands.Get key) =
-    looking (record { cache = site.cache; key = key; aim = aims.Read })
-opening site (commands.GetHash i) = reading (record { cache = site.cache; integrity = i })
-opening site (commands.Exists i) = asking (record { cache = site.cache; integrity = i })
-opening site commands.Ls = walk false (join site.cache index_area)
-opening site (commands.Export (sources.Key key) e) =
-    looking (record { cache = site.cache; key = key; aim = aims.Export e })
-opening site (commands.Export (sources.Hash i) e) =
-    export (record { cache = site.cache; integrity = i }) e
-opening site (commands.RemoveHash i) = remove_content site.cache i (over Done)
-opening site (commands.RemoveFully key) =
-    looking (record { cache = site.cache; key = key; aim = aims.Remove })
-opening site commands.Clear = walk true site.cache

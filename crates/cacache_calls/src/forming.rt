@@ -99,14 +99,6 @@ pub fn form_command(command: &Command)
         Command::Link(link) => form_link(link),
         Command::Insert(insert) => form_insert(insert),
         Command::Delete(delete) => form_delete(delete),
-        Command::Find(_)
-        | Command::Get(_)
-        | Command::GetHash(_)
-        | Command::Exists(_)
-        | Command::Export(_, _)
-        | Command::RemoveHash(_)
-        | Command::RemoveFully(_)
-        | Command::Ls
-        | Command::Clear => (),
+        _ => (),
     }
 }

@@ -1,5 +1,5 @@
 -- Paths that don't lie below one another.
-use Rattle.std.proofs.{Common.{◌≡◌, ◌⊎◌, inl, inr, ℕ, Bool, true, false, cond, List, [], ◌∷◌, ◌++◌, length, bytes_eq, refl, sym, ap, ◌∙◌, arith, append_assoc, length-append}, lemmas.Slice.Eq.{bytes_eq-Decides}}
+use Rattle.std.proofs.{Common.{rules, ◌≡◌, ◌⊎◌, inl, inr, ℕ, Bool, true, false, cond, List, [], ◌∷◌, ◌++◌, length, bytes_eq, refl, sym, ap, ◌∙◌, arith, append_assoc, length-append}, lemmas.Slice.Eq.{bytes_eq-Decides}}
 use Rattle.cacache_core.specs.PathNames.{Names}
 use Rattle.cacache_store.specs.declared.store.answer.Name.{Name}
 use Rattle.cacache_history.{specs.Setup.{are_apart}, proofs.{Listings.ToldFolders.{AreDistinct}, Each.{each_join, each_weaker, Each}}}
@@ -32,11 +32,7 @@ apart_right (n ∷ q) (m ∷ c) more e = by (bytes_eq n m) (apart_right q c more
 
 -- two names in one folder
 siblings : (q : Names) (n m : List ℕ) → (n ≡ m → ⊥) → are_apart (q ++ n ∷ []) (q ++ m ∷ []) ≡ true
-siblings [] n m other = by (bytes_eq n m) refl
-  where
-    by : (b : Bool) → bytes_eq n m ≡ b → cond b (are_apart [] []) true ≡ true
-    by true e = absurd (other ((bytes_eq-Decides n m).0 e))
-    by false e = refl
+siblings [] n m other = search rules
 siblings (x ∷ q) n m other = ap (λ b. cond b (are_apart (q ++ n ∷ []) (q ++ m ∷ [])) true) (bytes_same x) ∙ siblings q n m other
 
 abbrev pub ApartAll : Names → List Names → Type 0

@@ -1,5 +1,5 @@
 -- Each step that a sound call may make is proper.
-use Rattle.std.proofs.{Common.{◌≡◌, inl, inr, ℕ, Bool, true, false, ◌||◌, cond, List, ◌∷◌, Option, None, Some, Result, Ok, Err, bytes_eq, refl, sym, subst}, lemmas.Bool.{and_parts}}
+use Rattle.std.proofs.{Common.{arith, rules, ◌≡◌, inl, inr, ℕ, Bool, true, false, ◌||◌, cond, List, ◌∷◌, Option, None, Some, Result, Ok, Err, bytes_eq, refl, sym, subst}, lemmas.Bool.{and_parts}}
 use Rattle.std.specs.Prelude.{IfOk, []}
 use Rattle.cacache_core.specs.{declared.{errors.Fault.{Fault}, integrity.algorithm.Algorithm.{Algorithm}}, Digests.{digest}, Integrity.{hash_of, integrity_under}, PathNames.{Names, names_of, home_of}}
 use Rattle.cacache_core.proofs.PathLemmas.{keys_have_digests}
@@ -27,12 +27,10 @@ beside_apart (n ∷ ns) (m ∷ ms) e = by (bytes_eq n m) (beside_apart ns ms) e
     by false rest is = refl
 
 home_apart : (h : Option Names) (path : Names) → apart_from_home h path ≡ true → path_kind h path ≡ Elsewhere
-home_apart None path e = refl
-home_apart (Some folder) path e = beside_apart folder path e
+home_apart h path e = grind (arith, beside_apart)
 
 taken_elsewhere : (s : Setup) (r : Result Names Fault) → may_take s r ≡ true → IfOk r (λ path. path_kind (home s) path ≡ Elsewhere)
-taken_elsewhere s (Ok path) e = home_apart (home s) path (and_parts (apart_from_home (home s) path) (apart_from_files s.outside path) e).0
-taken_elsewhere s (Err fault) e = tt
+taken_elsewhere s r e = grind (arith, home_apart)
 
 -- a path that an export may take lies elsewhere
 pub export_elsewhere : (s : Setup) (path : List ℕ) → may_export s path ≡ true → IsFor (home s) Elsewhere path
@@ -83,9 +81,7 @@ module _ (cache : List ℕ) where
 
 module _ (s : Setup) (n : ℕ) (apart : LieApart (home s) s.outside) where
   folder_for : (p : List ℕ) → calls.IsFolder (call_site s n) p → IsFor (home s) Way p
-  folder_for p (inl e) = subst (IsFor (home s) Way) (sym e) (temps_for s.cache)
-  folder_for p (inr (inl c)) = subst (IsFor (home s) Way) (sym c.2) (contents_for s.cache c.0 c.1)
-  folder_for p (inr (inr b)) = subst (IsFor (home s) Way) (sym b.1) (buckets_for s.cache b.0)
+  folder_for p h = grind (arith, temps_for, contents_for, buckets_for)
 
   content_of : (p : List ℕ) → calls.IsContent (call_site s n) p → IsFor (home s) Content p
   content_of p c = subst (IsFor (home s) Content) (sym c.2) (content_for s.cache c.0 c.1)
@@ -94,21 +90,10 @@ module _ (s : Setup) (n : ℕ) (apart : LieApart (home s) s.outside) where
   temp_of p e = subst (IsFor (home s) Temporary) (sym e) (temp_for s.cache n)
 
   line_of : (p line : List ℕ) → calls.IsLine (call_site s n) p line → IsFor (home s) Bucket p × IsEntryLine line
-  line_of p line l = (
-    subst (IsFor (home s) Bucket) (sym l.4) (bucket_for s.cache l.0.key),
-    record { entry = l.0; formed = l.2; fits = Fits-no_cause l.0 l.2 l.3; durable = l.1; same = l.5 },
-  )
+  line_of p line l = search (rules, bucket_for)
 
   allowed_proper : (step : PlainStep) → calls.Allowed (call_site s n) (may_export s) (is_outside s) step → Proper (home s) step
-  allowed_proper (steps.MakeDirs p) a = folder_for p a
-  allowed_proper (steps.CreateTemp p) a = temp_of p a
-  allowed_proper (steps.Persist file p) a = (temp_of file.path a.0, content_of p a.1)
-  allowed_proper (steps.Append p line) a = line_of p line a
-  allowed_proper (steps.Symlink target p) a = (content_of p a.1, among_elsewhere (home s) s.outside target apart a.0)
-  allowed_proper (steps.Copy p q) a = export_elsewhere s q a
-  allowed_proper (steps.Reflink p q) a = export_elsewhere s q a
-  allowed_proper (steps.HardLink p q) a = export_elsewhere s q a
-  allowed_proper step a = tt
+  allowed_proper step a = grind (arith, folder_for, temp_of, content_of, line_of, among_elsewhere, export_elsewhere)
 
   -- the step that a sound state wants
   pub sound_proper : (state : State) (step : PlainStep) → calls.Sound (call_site s n) (may_export s) (is_outside s) state

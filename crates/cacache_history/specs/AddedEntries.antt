@@ -11,17 +11,7 @@ use Rattle.cacache_history.specs.{Setup.{home}, History.{History, Call, Reaches}
 abbrev pub NamesOwn : Command → Type 0
 NamesOwn (commands.Put p) = p.options.integrity ≡ None
 NamesOwn (commands.Link l) = l.options.integrity ≡ None
-NamesOwn (commands.Insert i) = ⊥
-NamesOwn (commands.Delete d) = ⊥
-NamesOwn (commands.Find key) = ⊥
-NamesOwn (commands.Get key) = ⊥
-NamesOwn (commands.GetHash i) = ⊥
-NamesOwn (commands.Exists i) = ⊥
-NamesOwn commands.Ls = ⊥
-NamesOwn (commands.Export source e) = ⊥
-NamesOwn (commands.RemoveHash i) = ⊥
-NamesOwn (commands.RemoveFully key) = ⊥
-NamesOwn commands.Clear = ⊥
+NamesOwn command = ⊥
 
 -- it is one of these deeds
 abbrev pub IsAmong : Deed → List Deed → Type 0

@@ -85,13 +85,7 @@ ReadsValue s (commands.Exists i) turns r = AsksHeld s i turns r
 ReadsValue s commands.Ls turns r = ListsHeld s turns r
 ReadsValue s (commands.Export source e) turns r =
     IfChecked e.checked (UnlessRefused (ExportsHeld s source turns r) r)
-ReadsValue s (commands.Put p) turns r = Unit {0}
-ReadsValue s (commands.Link l) turns r = Unit {0}
-ReadsValue s (commands.Insert i) turns r = Unit {0}
-ReadsValue s (commands.Delete d) turns r = Unit {0}
-ReadsValue s (commands.RemoveHash i) turns r = Unit {0}
-ReadsValue s (commands.RemoveFully key) turns r = Unit {0}
-ReadsValue s commands.Clear turns r = Unit {0}
+ReadsValue s command turns r = Unit {0}
 
 -- each reply of a call that reads, except out of memory, is what its turns show at their places
 abbrev pub RepliesReadValue : History → Type 0

@@ -31,16 +31,7 @@ abbrev pub reply_on : Setup → Tree → Command → Option Reply
 reply_on s t (commands.Find key) = Some (LookedUp (latest key (entries_on (home s) t key)))
 reply_on s t (commands.Get key) = Some (get_on s t key (latest key (entries_on (home s) t key)))
 reply_on s t (commands.GetHash i) = Some (read_on (home s) t i)
-reply_on s t (commands.Put p) = None
-reply_on s t (commands.Link l) = None
-reply_on s t (commands.Insert i) = None
-reply_on s t (commands.Delete d) = None
-reply_on s t (commands.Exists i) = None
-reply_on s t commands.Ls = None
-reply_on s t (commands.Export source e) = None
-reply_on s t (commands.RemoveHash i) = None
-reply_on s t (commands.RemoveFully key) = None
-reply_on s t commands.Clear = None
+reply_on s t command = None
 
 -- ---- what holds of each call
 

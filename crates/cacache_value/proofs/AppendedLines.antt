@@ -1,5 +1,5 @@
 -- What an append leaves of a bucket.
-use Rattle.std.proofs.{Common.{◌≡◌, ◌≤◌, ◌<◌, ◌+◌, length, ℕ, zero, suc, Bool, true, false, nat_le, arith, length-append, List, ◌∷◌, ◌++◌, Option, None, Some, Ok, Err, take, refl, sym, ap, ◌∙◌, append-nil}, lemmas.{List.{take_all, take-append-le}, Bool.{leb-true, leb-false}}}
+use Rattle.std.proofs.{lemmas.{Grind.{common_steps}, List.{take_all, take-append-le}, Bool.{leb-true, leb-false}}, Common.{rules, ◌≡◌, ◌≤◌, ◌<◌, ◌+◌, length, ℕ, zero, suc, Bool, true, false, nat_le, arith, length-append, List, ◌∷◌, ◌++◌, Option, None, Some, Ok, Err, take, refl, sym, ap, ◌∙◌, append-nil}}
 use Rattle.std.specs.Prelude.{Result, []}
 use Rattle.cacache_core.specs.{declared.errors.Fault.{Fault}, PathNames.{Names, names_of}}
 use Rattle.cacache_store.specs.{declared.store.step.Step.TheVariants.{Append}, Plain.{PlainAnswer}}
@@ -16,8 +16,7 @@ entries_left x y (suc n) = entries_split x (take n y) ∙ ap (λ es. entries_of 
 -- after a bucket's bytes too
 pub bucket_left : (here : Option Node) (y : List ℕ) (n : ℕ)
     → entries_of (bytes_of here ++ take n (10 ∷ y)) ≡ list_of (bucket_in here) ++ entries_of (take n (10 ∷ y))
-bucket_left (Some (File x)) y n = entries_left x y n
-bucket_left here y n = refl
+bucket_left here y n = grind (arith, entries_left)
 
 -- what is left of a line holds its entry if all of it is there
 pub whole_line : (e : Entry) (n : ℕ) → IsEntry e → IsWritable e → length (line_of e) ≤ n → entries_of (take n (line_of e)) ≡ e ∷ []
@@ -55,23 +54,16 @@ torn_closed durable e n formed fits short =
 -- the act of an append that left so much
 pub append_act : (path : List ℕ) (names : Names) (bytes : List ℕ) (luck : Luck) (answer : PlainAnswer) (n : ℕ) → names_of path ≡ Ok names
     → amount_left luck answer ≡ Some n → act_of (Append path bytes) luck answer ≡ AddEntries names (entries_of (take n bytes))
-append_act path names bytes luck answer n is left =
-    ap (λ r. act_at r (λ names. act_with (amount_left luck answer) (λ count. AddEntries names (entries_of (take count bytes))))) is
-    ∙ ap (λ o. act_with o (λ count. AddEntries names (entries_of (take count bytes)))) left
+append_act path names bytes luck answer n is left = search rules
 
 pub whole_lines_add : WholeLinesAdd
-whole_lines_add e n formed fits long durable path names luck answer is left =
-    append_act path names (closed_line durable e) luck answer n is left ∙ ap (AddEntries names) (whole_closed durable e n formed fits long)
+whole_lines_add e n formed fits long durable path names luck answer is left = search (rules, append_act, whole_closed)
 
 pub torn_lines_add_none : TornLinesAddNone
-torn_lines_add_none e n formed fits short durable path names luck answer is left =
-    append_act path names (closed_line durable e) luck answer n is left ∙ ap (AddEntries names) (torn_closed durable e n formed fits short)
+torn_lines_add_none e n formed fits short durable path names luck answer is left = search (rules, append_act, torn_closed)
 
 nothing_at : (r : Result Names Fault) (names : Names → ℕ → Act) → act_at r (λ n. act_with None (names n)) ≡ Nothing
-nothing_at (Ok n) names = refl
-nothing_at (Err fault) names = refl
+nothing_at r names = grind (arith, common_steps)
 
 pub nothing_left_is_nothing : NothingLeftIsNothing
-nothing_left_is_nothing path bytes luck answer left =
-    ap (λ o. act_at (names_of path) (λ names. act_with o (λ count. AddEntries names (entries_of (take count bytes))))) left
-    ∙ nothing_at (names_of path) (λ names count. AddEntries names (entries_of (take count bytes)))
+nothing_left_is_nothing path bytes luck answer left = search (rules, nothing_at)

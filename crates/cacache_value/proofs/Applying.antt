@@ -1,5 +1,5 @@
 -- What every step has in common, whatever its luck.
-use Rattle.std.{proofs.Common.{◌≡◌, ℕ, false, cond, Option, None, Some, Ok, Err, refl, sym, ap, subst, ◌∙◌}, specs.Prelude.{Result}}
+use Rattle.std.{proofs.{Common.{arith, ◌≡◌, ℕ, false, cond, Option, None, Some, Ok, Err, refl, sym, ap, subst, ◌∙◌}, lemmas.Grind.{common_steps}}, specs.Prelude.{Result}}
 use Rattle.cacache_core.specs.declared.errors.Fault.{Fault, TheVariants.{NotFound}}
 use Rattle.cacache_store.specs.{declared.store.answer.Answer.TheVariants.{Failed}, Plain.{PlainStep, PlainAnswer}}
 use Rattle.cacache_disk.specs.{declared.luck.Luck.{Luck, TheVariants.{Plain, Fail, Take}}, Tree.{Tree, Names}, Apply.{apply, plain, unless, is_taking, is_parted, fails, fault_told, left_by, made_up}}
@@ -18,23 +18,18 @@ module _ (home : Option Names) (t : Tree) (step : PlainStep) (nothing : (luck : 
 
   pub unless_acted : (luck : Luck) {A : Type 0} (r : Result A Fault) (go : A → PlainAnswer × Tree) → ((a : A) → r ≡ Ok a → Acted home t step luck (go a))
       → Acted home t step luck (unless r t go)
-  unless_acted luck (Ok a) go h = h a refl
-  unless_acted luck (Err fault) go h = failed luck fault t refl
+  unless_acted luck r go h = grind (arith, failed)
 
   fails_acted : (luck : Luck) (own : Option Fault) (fault : Fault) (left : Tree) → left ≡ t → Acted home t step luck (fails own fault t left)
-  fails_acted luck None fault left same = failed luck (made_up fault) left same
-  fails_acted luck (Some own) fault left same = failed luck own t refl
+  fails_acted luck own fault left same = grind (arith, failed)
 
   left_same : (part : Option ℕ) → is_parted step ≡ false → left_by t step part ≡ t
-  left_same None unparted = refl
-  left_same (Some part) unparted = ap (λ b. cond b (plain t step (Some part)).1 t) unparted
+  left_same part unparted = grind (arith, common_steps)
 
   pub apply_acted : (luck : Luck) → is_parted step ≡ false → ((most : Option ℕ) → Acted home t step luck (plain t step most))
       → Acted home t step luck (apply t step luck)
   unfolding apply
-  apply_acted Plain unparted h = h None
-  apply_acted (Take most) unparted h = h (cond (is_taking step) (Some most) None)
-  apply_acted (Fail fault part) unparted h = fails_acted (Fail fault part) (fault_told (plain t step None).0) fault (left_by t step part) (left_same part unparted)
+  apply_acted luck unparted h = grind (arith, fails_acted, left_same)
 
 -- ---- a step that is refused at its place
 
@@ -45,9 +40,7 @@ fails_refused outcome own fault t left is = ap (λ (o : PlainAnswer × Tree). fa
 pub apply_refused : (t : Tree) (step : PlainStep) (luck : Luck) (own : Fault) → ((most : Option ℕ) → plain t step most ≡ (Failed own, t))
     → apply t step luck ≡ (Failed own, t)
 unfolding apply
-apply_refused t step Plain own h = h None
-apply_refused t step (Take most) own h = h (cond (is_taking step) (Some most) None)
-apply_refused t step (Fail fault part) own h = fails_refused (plain t step None) own fault t (left_by t step part) (h None)
+apply_refused t step luck own h = grind (arith, fails_refused)
 
 pub refused : (home : Option Names) (t : Tree) (step : PlainStep) (luck : Luck) (own : Fault) → ((most : Option ℕ) → plain t step most ≡ (Failed own, t))
     → act_of step luck (Failed own) ≡ Nothing
@@ -57,5 +50,4 @@ refused home t step luck own h nothing =
 
 -- a made-up fault shows how much was left
 pub amount_left-made_up : (fault : Fault) (part : Option ℕ) → amount_left (Fail fault part) (Failed (made_up fault)) ≡ part
-amount_left-made_up NotFound part = refl
-amount_left-made_up other part = refl
+amount_left-made_up fault part = grind (arith, common_steps)

@@ -1,5 +1,6 @@
 -- What is known of a path at which a step found what it wanted.
-use Rattle.std.{proofs.Common.{◌≡◌, ℕ, zero, suc, true, List, [], ◌∷◌, ◌++◌, Option, None, Some, Ok, Err, refl, sym, ap, subst, ◌∙◌}, specs.Prelude.{Result, IfOk}}
+use Rattle.std.proofs.{Common.{arith, ◌≡◌, ℕ, zero, suc, true, List, [], ◌∷◌, ◌++◌, Option, None, Some, Ok, Err, refl, sym, ap, subst, ◌∙◌}, lemmas.Grind.{common_steps}}
+use Rattle.std.specs.Prelude.{Result, IfOk}
 use Rattle.cacache_core.specs.{declared.errors.Fault.{Fault, TheVariants.{NotFound}}, PathNames.{names_of}}
 use Rattle.cacache_disk.specs.{declared.node.Node.{Node, TheVariants.{Folder, File, Link}}, Tree.{Tree, Names, look}, LedTo.{and_then, or_fault, through, way_fault, place, standing, followed, leads, on_link, where_no_folder, linked_in, linked, writable, dirs}}
 use Rattle.cacache_disk.proofs.FoundNodes.{NoFolder, and_then_ok, place_ok, no_folder_at, standing_ok}
@@ -11,8 +12,7 @@ out_at : (home : Option Names) (t : Tree) (here : Option Node) (names new : Name
     → path_kind home names ≡ Elsewhere
     → ((target : List ℕ) → IsFor home Elsewhere target → go target ≡ Ok new → path_kind home new ≡ Elsewhere)
     → on_link here names go ≡ Ok new → path_kind home new ≡ Elsewhere
-out_at home t (Some (Link target)) names new go s k on e = on target s e
-out_at home t here names new go s k on e = let same : names ≡ new = cc in ap (path_kind home) (sym same) ∙ k
+out_at home t here names new go s k on e = grind (arith, common_steps)
 
 -- what holds of a path's names holds of these, if they are its names
 pub of_names : (P : Names → Type 0) (path : List ℕ) (names : Names) → IfOk (names_of path) P → names_of path ≡ Ok names → P names
@@ -53,9 +53,7 @@ OnlyMissing (Some other) = ⊥
 
 way_through : (home : Option Names) (here : Option Node) (later : Option Fault) → MayStand home here Way → OnlyMissing later
     → OnlyMissing (through here later)
-way_through home None later s h = tt
-way_through home (Some Folder) later s h = h
-way_through home here later s h = absurd s
+way_through home here later s h = grind (arith, common_steps)
 
 pub way_missing : (home : Option Names) (t : Tree) (path rest : Names) → is_used (path_kind home (path ++ rest)) ≡ true → Placed home t
     → OnlyMissing (way_fault t path rest)
@@ -72,16 +70,12 @@ pub data Reaches (names : Names) (r : Result Names Fault) : Type 0 where
 led : (home : Option Names) (t : Tree) (here : Option Node) (names : Names) (go : List ℕ → Result Names Fault) → look t names ≡ here
     → MayStand home here Bucket
     → and_then (on_link here names go) (λ n. where_no_folder (look t n) n) ≡ Ok names
-led home t (Some Folder) names go is s = absurd s
-led home t (Some (Link target)) names go is s = absurd s
-led home t here names go is s = rw is refl
+led home t here names go is s = grind (arith, common_steps)
 
 reached : (names : Names) (fault : Option Fault) (follow judge : Names → Result Names Fault) → OnlyMissing fault
     → and_then (follow names) judge ≡ Ok names
     → Reaches names (and_then (and_then (or_fault fault names) follow) judge)
-reached names None follow judge h e = found e
-reached names (Some NotFound) follow judge h e = missing refl
-reached names (Some other) follow judge h e = absurd h
+reached names fault follow judge h e = grind (arith, common_steps)
 
 pub bucket_reached : (home : Option Names) (t : Tree) (path : List ℕ) (names : Names) → Placed home t → names_of path ≡ Ok names
     → path_kind home names ≡ Bucket → Reaches names (writable t path)
@@ -96,16 +90,11 @@ bucket_reached home t path names placed is k =
 
 -- a link leads out, wherever it may be
 link_out : (home : Option Names) (target : List ℕ) (k : PathKind) → MayStand home (Some (Link target)) k → IsFor home Elsewhere target
-link_out home target Content s = s
-link_out home target Elsewhere s = s
-link_out home target k s = absurd s
+link_out home target k s = grind (arith, common_steps)
 
 linked_at : (home : Option Names) (here : Option Node) (k : PathKind) (node : Node) → MayStand home here k → linked_in here ≡ Ok node
     → MayStand home (Some node) Elsewhere × NoFolder (Some node)
-linked_at home (Some (File bytes)) k node s e = let same : File bytes ≡ node = cc in subst (λ n. MayStand home (Some n) Elsewhere × NoFolder (Some n)) same (tt, refl)
-linked_at home (Some (Link target)) k node s e =
-    let same : Link target ≡ node = cc in subst (λ n. MayStand home (Some n) Elsewhere × NoFolder (Some n)) same (link_out home target k s, refl)
-linked_at home here k node s e = absurd cc
+linked_at home here k node s e = grind (arith, link_out)
 
 pub linked_ok : (home : Option Names) (t : Tree) (path : List ℕ) (node : Node) → Placed home t → linked t path ≡ Ok node
     → MayStand home (Some node) Elsewhere × NoFolder (Some node)

@@ -1,5 +1,5 @@
 -- Paths of two kinds are apart, and above a path of the cache there are only ways.
-use Rattle.std.proofs.{Common.{◌≡◌, ℕ, zero, suc, Bool, true, false, cond, List, [], ◌∷◌, ◌++◌, Option, None, Some, bytes_eq, refl, sym, ap, ◌∙◌, eq-eqb, append_assoc}, lemmas.Bool.{false_from_ne_true}}
+use Rattle.std.proofs.{Common.{arith, rules, ◌≡◌, ℕ, zero, suc, Bool, true, false, cond, List, [], ◌∷◌, ◌++◌, Option, None, Some, bytes_eq, refl, sym, ap, ◌∙◌, eq-eqb, append_assoc}, lemmas.{Grind.{common_steps}, Bool.{false_from_ne_true}}}
 use Rattle.cacache_core.specs.Paths.{content_area, index_area, temp_area}
 use Rattle.cacache_disk.{specs.Tree.{Names, same_path}, proofs.Maps.{same_path-true}}
 use Rattle.cacache_value.specs.Kinds.{PathKind, Content, Bucket, Temporary, Way, Stray, Elsewhere, kind_in_area, kind_below, kind_beside, path_kind, is_used, is_path_of}
@@ -31,19 +31,14 @@ kind_in_above file (suc n) (first ∷ path) rest name used = kind_in_above file 
 area_above : (b c d : Bool) (path rest : Names) (name : List ℕ)
     → is_used (cond b (kind_in_area Content 4 (path ++ name ∷ rest)) (cond c (kind_in_area Bucket 3 (path ++ name ∷ rest)) (cond d (kind_in_area Temporary 1 (path ++ name ∷ rest)) Stray))) ≡ true
     → cond b (kind_in_area Content 4 path) (cond c (kind_in_area Bucket 3 path) (cond d (kind_in_area Temporary 1 path) Stray)) ≡ Way
-area_above true c d path rest name used = kind_in_above Content 4 path rest name used
-area_above false true d path rest name used = kind_in_above Bucket 3 path rest name used
-area_above false false true path rest name used = kind_in_above Temporary 1 path rest name used
-area_above false false false path rest name used = absurd cc
+area_above b c d path rest name used = grind (arith, kind_in_above)
 
 inner_above : (path rest : Names) (name : List ℕ) → is_used (kind_below (path ++ name ∷ rest)) ≡ true → kind_below path ≡ Way
 inner_above [] rest name used = refl
-inner_above (area ∷ path) rest name used =
-    area_above (bytes_eq area content_area) (bytes_eq area index_area) (bytes_eq area temp_area) path rest name used
+inner_above (area ∷ path) rest name used = search (rules, area_above)
 
 through : (b : Bool) (old new : PathKind) → (is_used old ≡ true → new ≡ Way) → is_used (cond b old Elsewhere) ≡ true → cond b new Elsewhere ≡ Way
-through true old new h used = h used
-through false old new h used = absurd cc
+through b old new h used = grind (arith, common_steps)
 
 outer_above : (home path rest : Names) (name : List ℕ) → is_used (kind_beside home (path ++ name ∷ rest)) ≡ true → kind_beside home path ≡ Way
 outer_above [] path rest name used = inner_above path rest name used
@@ -53,8 +48,7 @@ outer_above (n ∷ home) (first ∷ path) rest name used =
 
 -- above a path that the cache uses are ways
 pub above : (home : Option Names) (path rest : Names) (name : List ℕ) → is_used (path_kind home (path ++ name ∷ rest)) ≡ true → path_kind home path ≡ Way
-above None path rest name used = absurd cc
-above (Some home) path rest name used = outer_above home path rest name used
+above home path rest name used = grind (arith, outer_above)
 
 -- one more name
 pub further : (home : Option Names) (k : PathKind) (path rest : Names) (name : List ℕ) → path_kind home (path ++ name ∷ rest) ≡ k
@@ -75,12 +69,8 @@ kind_in_used file n rest used e = cc
 
 area_used : (b c d : Bool) (rest : Names)
     → cond b (kind_in_area Content 4 rest) (cond c (kind_in_area Bucket 3 rest) (cond d (kind_in_area Temporary 1 rest) Stray)) ≡ Elsewhere → ⊥
-area_used true c d rest e = kind_in_used Content 4 rest (λ f. cc) e
-area_used false true d rest e = kind_in_used Bucket 3 rest (λ f. cc) e
-area_used false false true rest e = kind_in_used Temporary 1 rest (λ f. cc) e
-area_used false false false rest e = cc
+area_used b c d rest e = grind (arith, kind_in_used)
 
 -- no path below the cache's folder is apart from it
 pub inner_used : (names : Names) → kind_below names ≡ Elsewhere → ⊥
-inner_used [] e = cc
-inner_used (area ∷ rest) e = area_used (bytes_eq area content_area) (bytes_eq area index_area) (bytes_eq area temp_area) rest e
+inner_used names e = grind (arith, area_used)

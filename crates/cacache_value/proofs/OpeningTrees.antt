@@ -1,5 +1,5 @@
 -- Outside files hold nothing of the cache.
-use Rattle.std.proofs.{Common.{◌≡◌, ◌==◌, ◌-◌, ◌+◌, ℕ, Bool, true, false, cond, List, [], ◌∷◌, ◌++◌, Option, None, Some, Ok, length, refl, sym, ap, ap₂, subst, ◌∙◌, append_assoc, append-nil, bytes_eq}, lemmas.Bool.{false_from_ne_true}}
+use Rattle.std.proofs.{Common.{arith, rules, ◌≡◌, ◌==◌, ◌-◌, ◌+◌, ℕ, Bool, true, false, cond, List, [], ◌∷◌, ◌++◌, Option, None, Some, Ok, length, refl, sym, ap, ap₂, subst, ◌∙◌, append_assoc, append-nil, bytes_eq}, lemmas.{Grind.{common_steps}, Bool.{false_from_ne_true}}}
 use Rattle.std.specs.FinMap as map
 use Rattle.cacache_core.specs.{Paths.{content_names, bucket_names_of}, PathNames.{names_of}}
 use Rattle.cacache_disk.specs.{declared.node.Node.{Node, TheVariants.{Folder, File}}, Tree.{Tree, Names, look, put, same_path, bare}, LedTo.{or_fault, dirs_fault, where_no_folder}, Apply.{planted, above_last, make_some, if_missing}, Rooted.{is_folder, Rooted}}
@@ -22,8 +22,7 @@ outer (Some home) p more e name rest =
 
 folder_suits_at : (home : Option Names) (b : Bool) (old new : PathKind) → (old ≡ Elsewhere → MayStand home (Some Folder) new)
     → cond b old Elsewhere ≡ Elsewhere → MayStand home (Some Folder) (cond b new Elsewhere)
-folder_suits_at home true old new h e = h e
-folder_suits_at home false old new h e = tt
+folder_suits_at home b old new h e = grind (arith, common_steps)
 
 folder_suits_in : (all : Option Names) (home p more : Names) → kind_beside home (p ++ more) ≡ Elsewhere → MayStand all (Some Folder) (kind_beside home p)
 folder_suits_in all [] p more e = absurd (inner_used (p ++ more) e)
@@ -92,12 +91,7 @@ module _ (home : Option Names) (t : Tree) (bytes : List ℕ) (placed : Placed ho
   planted_at : (names : Names) (new : Tree) → Ends names → path_kind home names ≡ Elsewhere → dirs_fault t [] (above_last names) ≡ None
       → is_folder (look t names) ≡ false
       → put (make_some t [] (above_last names) (length (above_last names))) names (File bytes) ≡ new → Grows new
-  planted_at names new (empty e) k f old is = let differ : true ≡ false = sym (ap is_folder rooted.top) ∙ ap (λ q. is_folder (look t q)) (sym e) ∙ old in absurd cc
-  planted_at names new (last above name e) k f old is =
-      let front : above_last names ≡ above = ap above_last e ∙ above_last-snoc above name in
-      let same : put (make_some t [] above (length above)) (above ++ name ∷ []) (File bytes) ≡ new = ap₂ (λ (a n : Names). put (make_some t [] a (length a)) n (File bytes)) (sym front) (sym e) ∙ is in
-      subst Grows same
-      (put_apart above name (ap (path_kind home) (sym e) ∙ k) (ap (dirs_fault t []) (sym front) ∙ f) (ap (λ q. is_folder (look t q)) (sym e) ∙ old))
+  planted_at names new h k f old is = grind (arith, empty, last, above_last-snoc, put_apart)
 
   planted_grows : (path : List ℕ) (new : Tree) → IsFor home Elsewhere path → planted t path bytes ≡ Ok new → Grows new
   unfolding planted
@@ -128,13 +122,10 @@ grown home t new (file ∷ files) opens apart e =
 -- ---- nothing but the top folder
 
 bare_inner : (home : Option Names) (name : List ℕ) (rest : Names) → node_below home bare (name ∷ rest) ≡ None
-bare_inner None name rest = refl
-bare_inner (Some home) name rest = bare_below home name rest
+bare_inner home name rest = grind (arith, bare_below)
 
 bare_folders : (home : Option Names) (q : Names) → folders_below home (λ n. is_folder (look bare n)) q ≡ false
-bare_folders None q = refl
-bare_folders (Some home) [] = refl
-bare_folders (Some home) (name ∷ rest) = ap is_folder (bare_below home name rest)
+bare_folders home q = grind (arith, bare_below)
 
 top_kind : (home : Option Names) → MayStand home (Some Folder) (path_kind home [])
 top_kind None = tt
@@ -146,11 +137,7 @@ bare_at home q true e = subst (λ r. MayStand home (Some Folder) (path_kind home
 bare_at home q false e = tt
 
 bare_opens : (home : Option Names) → IsOpening home bare
-bare_opens home = record {
-  placed = λ q. subst (λ here. MayStand home here (path_kind home q)) (sym (look-bare q)) (bare_at home q (same_path q []) refl);
-  rooted = bare_rooted;
-  nothing = same_value _ _ (λ a. ap blob_in (bare_inner home _ _)) (λ h. ap bucket_in (bare_inner home _ _)) (λ q. bare_folders home q);
-}
+bare_opens home = search (rules, look-bare, bare_at, bare_rooted, same_value, bare_inner, bare_folders)
 
 pub files_open : FilesOpen
 files_open home files t apart e = grown home bare t files (bare_opens home) apart e

@@ -1,5 +1,5 @@
 -- The paths of contents, buckets and temporary files are for what they should be.
-use Rattle.std.proofs.{Common.{◌≡◌, ◌<◌, ℕ, List, [], ◌∷◌, Option, None, Some, length, refl, sym, subst, ◌∙◌, arith}, lemmas.List.Elements.{All-nil, All-cons, All-head, All-tail}}
+use Rattle.std.proofs.{Common.{rules, ◌≡◌, ◌<◌, ℕ, List, [], ◌∷◌, Option, None, Some, length, refl, sym, subst, ◌∙◌, arith}, lemmas.List.Elements.{All-nil, All-cons, All-head, All-tail}}
 use Rattle.std.specs.Prelude.{All, IfOk}
 use Rattle.cacache_core.specs.{PathNames.{Names, home_of, names_below, IsProperName}, Paths.{content_names, bucket_names_of, temp_names, folder_names}}
 use Rattle.cacache_core.proofs.{JoinedNames.{joined_texts_name}, ProperNames.{names_are_proper}}
@@ -13,13 +13,11 @@ proper_folder (n ∷ m ∷ ns) all =
 proper_folder ns all = All-nil IsProperName
 
 kind_at : (home : Option Names) (k : PathKind) (ns : Names) → kind_below ns ≡ k → IfOk (names_below home ns) (λ names. path_kind home names ≡ k)
-kind_at None k ns is = tt
-kind_at (Some home) k ns is = kind-below home ns ∙ is
+kind_at home k ns is = grind (arith, kind-below)
 
 -- the text of proper names is for what their place below the cache's folder says
 text_for : (cache : List ℕ) (k : PathKind) (ns : Names) → All IsProperName ns → 0 < length ns → kind_below ns ≡ k → IsTextFor cache k ns
-text_for cache k ns all some is =
-    subst (λ r. IfOk r (λ names. path_kind (home_of cache) names ≡ k)) (sym (joined_texts_name cache ns all some)) (kind_at (home_of cache) k ns is)
+text_for cache k ns all some is = search (rules, joined_texts_name, kind_at)
 
 pub paths_are_for : (cache : List ℕ) → PathsAreFor cache
 paths_are_for cache = record {

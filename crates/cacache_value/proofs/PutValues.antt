@@ -1,5 +1,5 @@
 -- The value of a tree after a node is put or cut.
-use Rattle.std.proofs.Common.{◌≡◌, ℕ, Bool, true, false, cond, List, ◌++◌, Option, None, Some, refl, sym, ap, subst, ◌∙◌}
+use Rattle.std.proofs.{Common.{arith, rules, ◌≡◌, ℕ, Bool, true, false, cond, List, ◌++◌, Option, None, Some, refl, sym, ap, subst, ◌∙◌}, lemmas.Grind.{common_steps}}
 use Rattle.std.specs.FinMap as map
 use Rattle.cacache_core.specs.{declared.integrity.digest.Hash.{Hash}, Paths.{content_names, bucket_names_of}}
 use Rattle.cacache_disk.specs.{declared.node.Node.{Node, TheVariants.{Folder, File}}, Tree.{Tree, Names, look, put, cut, same_path}, Rooted.{is_folder}}
@@ -15,12 +15,10 @@ same_value v w c b f = λ i. record { contents = λ a. c a i; buckets = λ h. b 
 
 pub node_below-put : (home : Option Names) (t : Tree) (p : Names) (node : Node) (names : Names)
     → node_below home (put t p node) names ≡ cond (is_path_of home names p) (Some node) (node_below home t names)
-node_below-put None t p node names = refl
-node_below-put (Some home) t p node names = look-put t p node (home ++ names)
+node_below-put home t p node names = grind (arith, look-put)
 
 node_below-cut : (home : Option Names) (t : Tree) (p names : Names) → node_below home (cut t p) names ≡ cond (is_path_of home names p) None (node_below home t names)
-node_below-cut None t p names = refl
-node_below-cut (Some home) t p names = look-cut t p (home ++ names)
+node_below-cut home t p names = grind (arith, look-cut)
 
 -- the node at a path that is this one
 pub node_below-here : (home : Option Names) (t : Tree) (p names : Names) → is_path_of home names p ≡ true → node_below home t names ≡ look t p
@@ -28,8 +26,7 @@ node_below-here None t p names e = absurd cc
 node_below-here (Some home) t p names e = ap (look t) (same_path-true (home ++ names) p e)
 
 each : {A B : Type 0} (f : A → B) (b : Bool) (x y : A) → f (cond b x y) ≡ cond b (f x) (f y)
-each f true x y = refl
-each f false x y = refl
+each f b x y = grind (arith, common_steps)
 
 -- a change at a path of another kind isn't seen
 pub put_unseen : (home : Option Names) (t : Tree) (p : Names) (node : Node) (names : Names) → (kind_below names ≡ path_kind home p → ⊥)
@@ -47,8 +44,7 @@ suits_none home k = tt
 
 placed_at : (home : Option Names) (p q : Names) (new old : Option Node) (b : Bool) → same_path q p ≡ b → MayStand home new (path_kind home p)
     → MayStand home old (path_kind home q) → MayStand home (cond b new old) (path_kind home q)
-placed_at home p q new old true e s h = subst (λ r. MayStand home new (path_kind home r)) (sym (same_path-true q p e)) s
-placed_at home p q new old false e s h = h
+placed_at home p q new old b e s h = grind (arith, same_path-true)
 
 pub placed_put : (home : Option Names) (t : Tree) (p : Names) (node : Node) → MayStand home (Some node) (path_kind home p) → Placed home t
     → Placed home (put t p node)
@@ -63,59 +59,37 @@ module _ (home : Option Names) (t : Tree) (p : Names) where
   -- a file or link put at a path at which the cache keeps nothing
   pub put_hidden : (node : Node) → (Content ≡ path_kind home p → ⊥) → (Bucket ≡ path_kind home p → ⊥) → is_folder (Some node) ≡ false
       → is_folder (look t p) ≡ false → wide_value home (put t p node) ≡ wide_value home t
-  put_hidden node c b fresh old =
-      same_value _ _
-      (λ a. ap blob_in (put_unseen home t p node (content_names a) c))
-      (λ h. ap bucket_in (put_unseen home t p node (bucket_names_of h) b))
-      (λ q. folders-put t p node q fresh old)
+  put_hidden node c b fresh old = search (rules, same_value, put_unseen, folders-put)
 
   -- a file cut at a path at which the cache keeps nothing
   pub cut_hidden : (Content ≡ path_kind home p → ⊥) → (Bucket ≡ path_kind home p → ⊥) → is_folder (look t p) ≡ false
       → wide_value home (cut t p) ≡ wide_value home t
-  cut_hidden c b old =
-      same_value _ _
-      (λ a. ap blob_in (cut_unseen home t p (content_names a) c))
-      (λ h. ap bucket_in (cut_unseen home t p (bucket_names_of h) b))
-      (λ q. folders-cut t p q old)
+  cut_hidden c b old = search (rules, same_value, cut_unseen, folders-cut)
 
   -- a file or link put at a content's path
   pub put_content : (node : Node) → path_kind home p ≡ Content → is_folder (Some node) ≡ false → is_folder (look t p) ≡ false
       → wide_value home (put t p node) ≡ put_blob home p (blob_in (Some node)) (wide_value home t)
-  put_content node k fresh old =
-      same_value _ _
-      (λ a. ap blob_in (node_below-put home t p node (content_names a)) ∙ each blob_in (is_path_of home (content_names a) p) (Some node) (node_below home t (content_names a)))
-      (λ h. ap bucket_in (put_unseen home t p node (bucket_names_of h) (λ e. let no : Bucket ≡ Content = e ∙ k in cc)))
-      (λ q. folders-put t p node q fresh old)
+  put_content node k fresh old = search (rules, same_value, node_below-put, each, put_unseen, folders-put)
 
   bucket_at : (x : List ℕ) (new : List Entry) (names : Names) (b : Bool) → is_path_of home names p ≡ b
       → entries_of x ≡ list_of (bucket_in (look t p)) ++ new
       → bucket_in (cond b (Some (File x)) (node_below home t names)) ≡ cond b (Some (list_of (bucket_in (node_below home t names)) ++ new)) (bucket_in (node_below home t names))
-  bucket_at x new names true e is = ap Some (is ∙ ap (λ o. list_of (bucket_in o) ++ new) (sym (node_below-here home t p names e)))
-  bucket_at x new names false e is = refl
+  bucket_at x new names b e is = grind (arith, node_below-here)
 
   -- a file with more entries put at a bucket's path
   pub put_bucket : (x : List ℕ) (new : List Entry) → path_kind home p ≡ Bucket → is_folder (look t p) ≡ false
       → entries_of x ≡ list_of (bucket_in (look t p)) ++ new
       → wide_value home (put t p (File x)) ≡ add_entries home p new (wide_value home t)
-  put_bucket x new k old is =
-      same_value _ _
-      (λ a. ap blob_in (put_unseen home t p (File x) (content_names a) (λ e. let no : Content ≡ Bucket = e ∙ k in cc)))
-      (λ h. ap bucket_in (node_below-put home t p (File x) (bucket_names_of h)) ∙ bucket_at x new (bucket_names_of h) (is_path_of home (bucket_names_of h) p) refl is)
-      (λ q. folders-put t p (File x) q refl old)
+  put_bucket x new k old is = search (rules, same_value, put_unseen, node_below-put, bucket_at, folders-put)
 
   -- a file or link cut anywhere
   pub cut_file : is_folder (look t p) ≡ false → wide_value home (cut t p) ≡ drop_file home p (wide_value home t)
-  cut_file old =
-      same_value _ _
-      (λ a. ap blob_in (node_below-cut home t p (content_names a)) ∙ each blob_in (is_path_of home (content_names a) p) None (node_below home t (content_names a)))
-      (λ h. ap bucket_in (node_below-cut home t p (bucket_names_of h)) ∙ each bucket_in (is_path_of home (bucket_names_of h) p) None (node_below home t (bucket_names_of h)))
-      (λ q. folders-cut t p q old)
+  cut_file old = search (rules, same_value, node_below-cut, each, folders-cut)
 
   -- a folder cut: it is no content and no bucket
   no_file : {A : Type 0} (f : Option Node → Option A) (names : Names) (b : Bool) → is_path_of home names p ≡ b → f None ≡ f (Some Folder)
       → look t p ≡ Some Folder → f (cond b None (node_below home t names)) ≡ f (node_below home t names)
-  no_file f names true e same is = same ∙ ap f (sym (node_below-here home t p names e ∙ is))
-  no_file f names false e same is = refl
+  no_file f names b e same is = grind (arith, node_below-here)
 
   pub cut_folder : look t p ≡ Some Folder
       → wide_value home (cut t p) ≡ with_folders (set_folder false p (wide_value home t).folders) (wide_value home t)
@@ -128,8 +102,4 @@ module _ (home : Option Names) (t : Tree) (p : Names) where
   -- a folder made on the way
   pub put_folder : path_kind home p ≡ Way
       → wide_value home (put t p Folder) ≡ with_folders (set_folder true p (wide_value home t).folders) (wide_value home t)
-  put_folder k =
-      same_value _ _
-      (λ a. ap blob_in (put_unseen home t p Folder (content_names a) (λ e. let no : Content ≡ Way = e ∙ k in cc)))
-      (λ h. ap bucket_in (put_unseen home t p Folder (bucket_names_of h) (λ e. let no : Bucket ≡ Way = e ∙ k in cc)))
-      (λ q. ap is_folder (look-put t p Folder q) ∙ each is_folder (same_path q p) (Some Folder) (look t q))
+  put_folder k = search (rules, same_value, put_unseen, look-put, each)

@@ -1,5 +1,6 @@
 -- Reading steps show what the value holds.
-use Rattle.std.{proofs.Common.{◌≡◌, ℕ, true, false, cond, List, [], ◌++◌, Option, None, Some, Ok, Err, refl, sym, ap, subst, ◌∙◌, length}, specs.Prelude.{Result}}
+use Rattle.std.proofs.{Common.{arith, ◌≡◌, ℕ, true, false, cond, List, [], ◌++◌, Option, None, Some, Ok, Err, refl, sym, ap, subst, ◌∙◌, length}, lemmas.Grind.{common_steps}}
+use Rattle.std.specs.Prelude.{Result}
 use Rattle.cacache_core.specs.{declared.{errors.Fault.{Fault, TheVariants.{NotFound, IsADirectory, InvalidInput}}, integrity.digest.Hash.{Hash}}, Paths.{content_names, bucket_names_of}, PathNames.{names_of, names_below}}
 use Rattle.cacache_store.specs.{declared.store.{step.Step.TheVariants.{ReadAll, Open, Size, Exists}, answer.Answer.TheVariants.{Bytes, File as Opened, There, Length, Failed}}, Plain.{PlainStep, PlainAnswer}}
 use Rattle.cacache_disk.specs.{declared.{luck.Luck.{Luck, TheVariants.{Plain, Fail, Take}}, node.Node.{Node, TheVariants.{Folder, File, Link}}}, Tree.{Tree, Names, look}, LedTo.{way_fault, place, followed, leads, found, file_at, bytes_there}, Apply.{apply, plain, unless, is_there, is_taking, fails, fault_told, left_by, made_up}, Rooted.{Rooted}}
@@ -11,19 +12,15 @@ use Rattle.cacache_value.proofs.{KindsApart.{kind-below}, FoundPaths.{OnlyMissin
 -- ---- an answer under any luck
 
 failed_is : (a : PlainAnswer) (own : Fault) → fault_told a ≡ Some own → a ≡ Failed own
-failed_is (Failed f) own e = cc
-failed_is a own e = absurd cc
+failed_is a own e = grind (arith, common_steps)
 
 module _ (Q : PlainAnswer → Type 0) (made_up_too : (fault : Fault) → Q (Failed (made_up fault))) where
   fails_answer : (t left : Tree) (a : PlainAnswer) (own : Option Fault) (fault : Fault) → fault_told a ≡ own → Q a → Q (fails own fault t left).0
-  fails_answer t left a None fault e h = made_up_too fault
-  fails_answer t left a (Some own) fault e h = subst Q (failed_is a own e) h
+  fails_answer t left a own fault e h = grind (arith, failed_is)
 
   pub apply_answer : (t : Tree) (step : PlainStep) (luck : Luck) → ((most : Option ℕ) → Q (plain t step most).0) → Q (apply t step luck).0
   unfolding apply
-  apply_answer t step Plain h = h None
-  apply_answer t step (Take most) h = h (cond (is_taking step) (Some most) None)
-  apply_answer t step (Fail fault part) h = fails_answer t (left_by t step part) (plain t step None).0 (fault_told (plain t step None).0) fault refl (h None)
+  apply_answer t step luck h = grind (arith, fails_answer)
 
 -- ---- where a path of the cache leads
 
@@ -36,9 +33,7 @@ data Leads (t : Tree) (path : List ℕ) (names : Names) : Type 0 where
 missing_at : (t : Tree) (path : List ℕ) (names : Names) (fault : Option Fault) → way_fault t [] names ≡ fault → OnlyMissing fault
     → names_of path ≡ Ok names → look t names ≡ None → Leads t path names
 unfolding place
-missing_at t path names None e h is none = free none (rw (is, e) refl)
-missing_at t path names (Some NotFound) e h is none = missing none (rw (is, e) refl)
-missing_at t path names (Some other) e h is none = absurd h
+missing_at t path names fault e h is none = grind (arith, common_steps)
 
 leads_at : (home : Option Names) (t : Tree) (path : List ℕ) (names : Names) (here : Option Node) → look t names ≡ here → Placed home t → Rooted t
     → is_used (path_kind home names) ≡ true → names_of path ≡ Ok names → Leads t path names
@@ -50,57 +45,29 @@ module _ (t : Tree) (path : List ℕ) (names : Names) where
   content_read : (home : Option Names) (here : Option Node) → look t names ≡ here → MayStand home here Content → Leads t path names
       → file_at t path IsADirectory ≡ blob_bytes t (blob_in here)
   unfolding file_at leads followed link_end
-  content_read home None e s (there node h w) = let differ : None ≡ Some node = sym e ∙ h in absurd cc
-  content_read home None e s (free h w) = rw (w, h, h) refl
-  content_read home None e s (missing h w) = rw w refl
-  content_read home (Some Folder) e s l = absurd s
-  content_read home (Some (File bytes)) e s (there node h w) = rw (w, e, e) refl
-  content_read home (Some (File bytes)) e s (free h w) = let differ : Some (File bytes) ≡ None = sym e ∙ h in absurd cc
-  content_read home (Some (File bytes)) e s (missing h w) = let differ : Some (File bytes) ≡ None = sym e ∙ h in absurd cc
-  content_read home (Some (Link target)) e s (there node h w) = rw (w, e) refl
-  content_read home (Some (Link target)) e s (free h w) = let differ : Some (Link target) ≡ None = sym e ∙ h in absurd cc
-  content_read home (Some (Link target)) e s (missing h w) = let differ : Some (Link target) ≡ None = sym e ∙ h in absurd cc
+  content_read home here e s h = grind (arith, common_steps)
 
   content_there : (home : Option Names) (here : Option Node) → look t names ≡ here → MayStand home here Content → Leads t path names
       → is_there (found t path) ≡ blob_there t (blob_in here)
   unfolding found leads followed link_end
-  content_there home None e s (there node h w) = let differ : None ≡ Some node = sym e ∙ h in absurd cc
-  content_there home None e s (free h w) = rw (w, h, h) refl
-  content_there home None e s (missing h w) = rw w refl
-  content_there home (Some Folder) e s l = absurd s
-  content_there home (Some (File bytes)) e s (there node h w) = rw (w, e, e) refl
-  content_there home (Some (File bytes)) e s (free h w) = let differ : Some (File bytes) ≡ None = sym e ∙ h in absurd cc
-  content_there home (Some (File bytes)) e s (missing h w) = let differ : Some (File bytes) ≡ None = sym e ∙ h in absurd cc
-  content_there home (Some (Link target)) e s (there node h w) = rw (w, e) refl
-  content_there home (Some (Link target)) e s (free h w) = let differ : Some (Link target) ≡ None = sym e ∙ h in absurd cc
-  content_there home (Some (Link target)) e s (missing h w) = let differ : Some (Link target) ≡ None = sym e ∙ h in absurd cc
+  content_there home here e s h = grind (arith, common_steps)
 
   bucket_read : (home : Option Names) (here : Option Node) → look t names ≡ here → MayStand home here Bucket → Leads t path names
       → file_at t path IsADirectory ≡ bytes_there IsADirectory here
   unfolding file_at leads followed
-  bucket_read home None e s (there node h w) = let differ : None ≡ Some node = sym e ∙ h in absurd cc
-  bucket_read home None e s (free h w) = rw (w, h, h) refl
-  bucket_read home None e s (missing h w) = rw w refl
-  bucket_read home (Some (File bytes)) e s (there node h w) = rw (w, e, e) refl
-  bucket_read home (Some (File bytes)) e s (free h w) = let differ : Some (File bytes) ≡ None = sym e ∙ h in absurd cc
-  bucket_read home (Some (File bytes)) e s (missing h w) = let differ : Some (File bytes) ≡ None = sym e ∙ h in absurd cc
-  bucket_read home here e s l = absurd s
+  bucket_read home here e s h = grind (arith, common_steps)
 
 -- ---- what the answers show
 
 made_up_bucket : (listed : Option (List Entry)) (fault : Fault) → ShowsBucket listed (Failed (made_up fault))
-made_up_bucket listed NotFound = tt
-made_up_bucket listed other = tt
+made_up_bucket listed fault = grind (arith, common_steps)
 
 made_up_content : (held : Result (List ℕ) Fault) (fault : Fault) → ShowsContent held (Failed (made_up fault))
-made_up_content held NotFound = tt
-made_up_content held other = tt
+made_up_content held fault = grind (arith, common_steps)
 
 bucket_shown : (home : Option Names) (t : Tree) (here : Option Node) (r : Result (List ℕ) Fault) → MayStand home here Bucket
     → r ≡ bytes_there IsADirectory here → ShowsBucket (bucket_in here) (unless r t (λ bytes. (Bytes bytes, t))).0
-bucket_shown home t (Some Folder) r s e = absurd s
-bucket_shown home t (Some (Link target)) r s e = absurd s
-bucket_shown home t here r s e = rw e refl
+bucket_shown home t here r s e = grind (arith, common_steps)
 
 -- what answers a read of a content's bytes
 abbrev IsAnswerOf : (List ℕ → PlainAnswer) → Type 0
@@ -108,13 +75,10 @@ IsAnswerOf answer = (bytes : List ℕ) → ShowsContent (Ok bytes) (answer bytes
 
 content_shown : (t : Tree) (answer : List ℕ → PlainAnswer) (r : Result (List ℕ) Fault) → IsAnswerOf answer
     → ShowsContent r (unless r t (λ bytes. (answer bytes, t))).0
-content_shown t answer (Ok bytes) shows = shows bytes
-content_shown t answer (Err NotFound) shows = refl
-content_shown t answer (Err other) shows = tt
+content_shown t answer r shows = grind (arith, common_steps)
 
 there_shown : (a : PlainAnswer) → ShowsThere a a
-there_shown (There b) = refl
-there_shown other = tt
+there_shown a = grind (arith, common_steps)
 
 unnamed : (t : Tree) (path : List ℕ) → names_of path ≡ Err InvalidInput → leads t path ≡ Err InvalidInput
 unfolding leads place

@@ -1,5 +1,5 @@
 -- The single cases.
-use Rattle.std.proofs.{Common.{◌≡◌, ◌≢◌, ◌≤◌, ◌<◌, ℕ, false, cond, List, [], ◌∷◌, ◌++◌, Option, None, Some, Ok, length, take, refl, ap, ◌∙◌, arith, append-nil}, lemmas.{List.{append_cancel_left}, Bool.{false_from_ne_true}}}
+use Rattle.std.proofs.{lemmas.{Grind.{common_steps}, List.{append_cancel_left}, Bool.{false_from_ne_true}}, Common.{rules, ◌≡◌, ◌≢◌, ◌≤◌, ◌<◌, ℕ, false, cond, List, [], ◌∷◌, ◌++◌, Option, None, Some, Ok, length, take, refl, ap, ◌∙◌, arith, append-nil}}
 use Rattle.cacache_core.specs.{declared.{integrity.digest.Hash.{Hash}, errors.Fault.TheVariants.{NotFound, IsADirectory, Device}}, Integrity.{IsHash}, Paths.{joined, content_names, bucket_names_of}, PathLaws.{IsKeyDigest}, PathNames.{Names, names_of}}
 use Rattle.cacache_core.proofs.PathTexts.{paths_differ}
 use Rattle.cacache_entry.{proofs.Lines.{empty_holds_nothing}, specs.{Entry.{Entry, line_of}, FittingEntries.{IsEntry, IsWritable}, Bucket.{entries_of}}}
@@ -15,10 +15,7 @@ here p x y = ap (λ b. cond b x y) (same_self p)
 bucket_with : (home : Names) (v : Value) (path digest : List ℕ) (e : Entry) (luck : Luck) (answer : PlainAnswer) (n : ℕ) (new : List Entry)
     → names_of path ≡ Ok (home ++ bucket_names_of digest) → amount_left luck answer ≡ Some n → entries_of (take n (line_of e)) ≡ new
     → bucket_after home v path digest e luck answer ≡ Some (list_of (v.buckets digest) ++ new)
-bucket_with home v path digest e luck answer n new is left adds =
-    ap (λ act. (change (Some home) act v).buckets digest) (append_act path (home ++ bucket_names_of digest) (line_of e) luck answer n is left)
-    ∙ here (home ++ bucket_names_of digest) (Some (list_of (v.buckets digest) ++ entries_of (take n (line_of e)))) (v.buckets digest)
-    ∙ ap (λ es. Some (list_of (v.buckets digest) ++ es)) adds
+bucket_with home v path digest e luck answer n new is left adds = search (rules, append_act, here)
 
 pub append_cases : (home : Names) (v : Value) (path digest : List ℕ) (e : Entry) → IsEntry e → IsWritable e
     → names_of path ≡ Ok (home ++ bucket_names_of digest) → AppendCases home v path digest e
@@ -48,8 +45,7 @@ contents_apart home a b p q differ =
 
 unput : (o : Option (List ℕ)) (home : Names) (v : Value) (a b : Hash) → same_path (home ++ content_names b) (home ++ content_names a) ≡ false
     → (change (Some home) (act_with o (PutBytes (home ++ content_names a))) v).contents b ≡ v.contents b
-unput None home v a b e = refl
-unput (Some bytes) home v a b e = rw e refl
+unput o home v a b e = grind (arith, common_steps)
 
 -- so have two digests
 buckets_apart : (home : Names) (d b : List ℕ) → IsKeyDigest d → IsKeyDigest b → b ≢ d → same_path (home ++ bucket_names_of b) (home ++ bucket_names_of d) ≡ false
@@ -60,12 +56,10 @@ buckets_apart home d b p q differ =
 
 unadd : (o : Option ℕ) (home : Names) (v : Value) (bytes d b : List ℕ) → same_path (home ++ bucket_names_of b) (home ++ bucket_names_of d) ≡ false
     → (change (Some home) (act_with o (λ count. AddEntries (home ++ bucket_names_of d) (entries_of (take count bytes)))) v).buckets b ≡ v.buckets b
-unadd None home v bytes d b e = refl
-unadd (Some count) home v bytes d b e = rw e refl
+unadd o home v bytes d b e = grind (arith, common_steps)
 
 pub other_buckets_keep : OtherBucketsKeep
-other_buckets_keep home v path bytes d b luck answer p q differ is =
-    rw is (unadd (amount_left luck answer) home v bytes d b (buckets_apart home d b p q differ))
+other_buckets_keep home v path bytes d b luck answer p q differ is = search (rules, unadd, buckets_apart)
 
 pub content_cases : (home : Names) (v : Value) (path : List ℕ) (a : Hash) → names_of path ≡ Ok (home ++ content_names a)
     → ContentCases home v path a
@@ -81,48 +75,18 @@ pub removed_buckets_go : RemovedBucketsGo
 removed_buckets_go home v path digest luck is = rw is (here (home ++ bucket_names_of digest) _ _)
 
 pub tree_cases : (home : Names) (t : Tree) → TreeCases home t
-tree_cases home t = record {
-  file = λ a bytes is. ap blob_in is;
-  link = λ a target is. ap blob_in is;
-  no_content = λ a is. ap blob_in is;
-  bucket = λ digest bytes is. ap bucket_in is;
-  empty_bucket = λ digest is. ap bucket_in is ∙ ap Some empty_holds_nothing;
-  no_bucket = λ digest is. ap bucket_in is;
-}
+tree_cases home t = search (rules, empty_holds_nothing)
 
 pub link_cases : (t : Tree) (target : List ℕ) → LinkCases t target
-link_cases t target = record {
-  to_file = λ end bytes is file. rw is (ap (bytes_there IsADirectory) file);
-  to_nothing = λ is. rw is refl;
-  to_folder = λ end is folder. rw is (ap (bytes_there IsADirectory) folder);
-}
+link_cases t target = search rules
 
 -- the folders after a step that left so many
 folders_with : (p : List ℕ) (luck : Luck) (answer : PlainAnswer) (n : ℕ) (names : Names) → names_of p ≡ Ok row_folder
     → folders_left row_folder luck answer ≡ Some n → folders_after p luck answer names ≡ make_folders (λ names. false) [] row_folder n names
-folders_with p luck answer n names is left =
-    ap (λ r. (change (Some row_home) (act_at r (λ names. act_with (folders_left names luck answer) (MakeFolders names))) empty_value).folders names) is
-    ∙ ap (λ o. (change (Some row_home) (act_with o (MakeFolders row_folder)) empty_value).folders names) left
+folders_with p luck answer n names is left = search rules
 
 pub folder_cases : (p : List ℕ) (luck : Luck) → names_of p ≡ Ok row_folder → FolderCases p luck
-folder_cases p luck is = record {
-  first = folders_with p luck Done 2 row_home is refl;
-  second = folders_with p luck Done 2 row_folder is refl;
-  only_first = folders_with p (Fail Device (Some 1)) (Failed Device) 1 row_home is refl;
-  no_second = folders_with p (Fail Device (Some 1)) (Failed Device) 1 row_folder is refl;
-  removed = λ v. rw is refl;
-}
+folder_cases p luck is = search (rules, folders_with)
 
 pub kind_cases : KindCases
-kind_cases = record {
-  content = refl;
-  bucket = refl;
-  temporary = refl;
-  top = refl;
-  home = refl;
-  folder = refl;
-  too_deep = refl;
-  other_area = refl;
-  apart = refl;
-  no_home = refl;
-}
+kind_cases = search rules

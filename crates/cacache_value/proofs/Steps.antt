@@ -1,5 +1,5 @@
 -- The step theorem, one kind of step after another.
-use Rattle.std.proofs.{Common.{◌≡◌, ℕ, false, List, [], ◌∷◌, ◌++◌, Option, None, Some, Ok, Err, length, take, refl, sym, ap, subst, ◌∙◌}, lemmas.List.{take_min}}
+use Rattle.std.proofs.{Common.{arith, rules, ◌≡◌, ℕ, false, List, [], ◌∷◌, ◌++◌, Option, None, Some, Ok, Err, length, take, refl, sym, ap, subst, ◌∙◌}, lemmas.{Grind.{common_steps}, List.{take_min}}}
 use Rattle.std.specs.Prelude.{Result, IfOk}
 use Rattle.cacache_core.specs.{declared.errors.Fault.{Fault, TheVariants.{NotFound, IsADirectory, InvalidInput}}, PathNames.{names_of}}
 use Rattle.cacache_store.specs.{declared.store.{plain.PlainTemp.{PlainTemp}, step.Step.TheVariants.{MakeDirs, CreateTemp, Write, Persist, Append, ReadAll, Open, Read, Size, Exists, Symlink, Copy, Reflink, HardLink, ReadDir, RemoveFile, RemoveDir, SyncTemp, SyncFile, SyncDir}, answer.Answer.TheVariants.{Done, Took, Failed}}, Plain.{PlainStep, PlainAnswer}}
@@ -10,12 +10,10 @@ use Rattle.cacache_value.specs.{Kinds.{PathKind, Content, Bucket, Temporary, Way
 use Rattle.cacache_value.proofs.{PutValues.{placed_put, placed_cut, put_hidden, cut_hidden, put_content, put_bucket, cut_file, cut_folder}, FoundPaths.{suits, Reaches, found, missing, bucket_reached, unreachable, unmakeable, of_names, linked_ok, writable_out}, Applying.{Acted, unless_acted, apply_acted, apply_refused, refused, amount_left-made_up}, MadeFolders.{made, no_dirs_fault}, AppendedLines.{bucket_left}}
 
 pub known_ok : (o : Option (List ℕ)) (bytes : List ℕ) → known o ≡ Ok bytes → o ≡ Some bytes
-known_ok None bytes e = absurd cc
-known_ok (Some old) bytes e = cc
+known_ok o bytes e = grind (arith, common_steps)
 
 no_folder_in : (home : Option Names) (here : Option Node) → MayStand home here Bucket → is_folder here ≡ false
-no_folder_in home (Some Folder) s = absurd s
-no_folder_in home here s = refl
+no_folder_in home here s = grind (arith, common_steps)
 
 -- a placed tree with the same value
 abbrev pub Same : Option Names → Tree → Tree → Type 0
@@ -160,9 +158,7 @@ module _ (home : Option Names) (t : Tree) (placed : Placed home t) where
         ∙ ap (λ r. change home (act_at r (λ n. act_with (amount_left luck answer) (λ count. AddEntries n (entries_of (take count (10 ∷ y)))))) (wide_value home t)) (sym is)
 
     nothing_added : (luck : Luck) (answer : PlainAnswer) → amount_left luck answer ≡ None → Acted home t (Append p (10 ∷ y)) luck (answer, t)
-    nothing_added luck answer l =
-        ap (λ o. change home (act_with o (λ count. AddEntries names (entries_of (take count (10 ∷ y))))) (wide_value home t)) (sym l)
-        ∙ ap (λ r. change home (act_at r (λ n. act_with (amount_left luck answer) (λ count. AddEntries n (entries_of (take count (10 ∷ y)))))) (wide_value home t)) (sym is)
+    nothing_added luck answer l = search rules
 
     append_reached : (luck : Luck) → Reaches names (writable t p) → Acted home t (Append p (10 ∷ y)) luck (apply t (Append p (10 ∷ y)) luck)
     unfolding apply
@@ -182,8 +178,7 @@ module _ (home : Option Names) (t : Tree) (placed : Placed home t) where
   reached_placed : (p : List ℕ) (names : Names) (bytes : Names → List ℕ) (answer : Names → PlainAnswer) → path_kind home names ≡ Bucket
       → Reaches names (writable t p)
       → Placed home (unless (writable t p) t (λ n. (answer n, put t n (File (bytes n))))).1
-  reached_placed p names bytes answer k (found w) = rw w (file_put names (bytes names) k)
-  reached_placed p names bytes answer k (missing w) = rw w placed
+  reached_placed p names bytes answer k h = grind (arith, found, file_put, missing)
 
   append_kept : (p y : List ℕ) (luck : Luck) (r : Result Names Fault) → names_of p ≡ r → IfOk r (λ n. path_kind home n ≡ Bucket)
       → Placed home (apply t (Append p (10 ∷ y)) luck).1 × Acted home t (Append p (10 ∷ y)) luck (apply t (Append p (10 ∷ y)) luck)
@@ -206,9 +201,7 @@ module _ (home : Option Names) (t : Tree) (placed : Placed home t) where
         ∙ ap (λ r. change home (act_at r (λ n. act_with (folders_left n luck answer) (MakeFolders n))) (wide_value home t)) (sym is)
 
     no_dirs : (luck : Luck) (answer : PlainAnswer) → folders_left names luck answer ≡ None → Acted home t (MakeDirs p) luck (answer, t)
-    no_dirs luck answer l =
-        ap (λ o. change home (act_with o (MakeFolders names)) (wide_value home t)) (sym l)
-        ∙ ap (λ r. change home (act_at r (λ n. act_with (folders_left n luck answer) (MakeFolders n))) (wide_value home t)) (sym is)
+    no_dirs luck answer l = search rules
 
     dirs_found : dirs t p ≡ Ok names
     unfolding dirs
@@ -216,10 +209,7 @@ module _ (home : Option Names) (t : Tree) (placed : Placed home t) where
 
     dirs_acted : (luck : Luck) → dirs t p ≡ Ok names → Acted home t (MakeDirs p) luck (apply t (MakeDirs p) luck)
     unfolding apply
-    dirs_acted Plain w = rw w (made_dirs Plain Done (length names) refl)
-    dirs_acted (Take most) w = rw w (made_dirs (Take most) Done (length names) refl)
-    dirs_acted (Fail fault None) w = rw w (no_dirs (Fail fault None) (Failed (made_up fault)) (amount_left-made_up fault None))
-    dirs_acted (Fail fault (Some n)) w = rw w (made_dirs (Fail fault (Some n)) (Failed (made_up fault)) n (amount_left-made_up fault (Some n)))
+    dirs_acted luck w = grind (arith, made_dirs, no_dirs, amount_left-made_up)
 
     dirs_placed : (luck : Luck) → Placed home (apply t (MakeDirs p) luck).1
     dirs_placed luck = apply_tree (Placed home) t (MakeDirs p) luck placed (λ most. rw dirs_found (made home t [] names (making most names) k placed).0)

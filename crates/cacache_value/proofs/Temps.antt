@@ -1,5 +1,6 @@
 -- What a proper step does at a path of a kind.
-use Rattle.std.{proofs.Common.{◌≡◌, ℕ, Bool, true, false, List, [], ◌∷◌, ◌++◌, Option, None, Some, Result, Ok, Err, refl, sym, ap, ◌∙◌}, specs.Prelude.{IfOk, ◌||◌}}
+use Rattle.std.proofs.{Common.{arith, ◌≡◌, ℕ, Bool, true, false, List, [], ◌∷◌, ◌++◌, Option, None, Some, Result, Ok, Err, refl, sym, ap, ◌∙◌}, lemmas.Grind.{common_steps}}
+use Rattle.std.specs.Prelude.{IfOk, ◌||◌}
 use Rattle.cacache_core.specs.{declared.errors.Fault.{Fault, TheVariants.{NotFound}}, PathNames.{names_of}}
 use Rattle.cacache_store.specs.{declared.store.step.Step.TheVariants.{MakeDirs, CreateTemp, Persist, Append, Symlink, Copy, Reflink, HardLink, RemoveFile, RemoveDir}, Plain.{PlainStep}}
 use Rattle.cacache_disk.specs.{declared.{luck.Luck.{Luck}, node.Node.{Node, TheVariants.{File}}}, Apply.{apply}, LedTo.{writable}, Tree.{Names, Tree, fronts, is_among, look, same_path}}
@@ -28,8 +29,7 @@ pub data TempAt (t : Tree) (step : PlainStep) (q : Names) (new : Tree) : Type 0 
 -- ---- the kind of the paths at which a proper step puts something
 
 either_way : {A : Type 0} (b c : Bool) → (b ≡ true → A) → (c ≡ true → A) → (b || c) ≡ true → A
-either_way true c here later is = here refl
-either_way false c here later is = later is
+either_way b c here later is = grind (arith, common_steps)
 
 front_way : (home : Option Names) (above rest q : Names) → path_kind home (above ++ rest) ≡ Way → is_among q (fronts above rest) ≡ true → path_kind home q ≡ Way
 front_way home above [] q way is = absurd cc
@@ -52,13 +52,11 @@ module _ (home : Option Names) (t : Tree) (placed : Placed home t) where
   named k p names q for is e = ap (path_kind home) e ∙ of_names (λ n. path_kind home n ≡ k) p names for is
 
   own_path : (p : List ℕ) (names own : Names) → names_of p ≡ Ok own → writable t p ≡ Ok names → Reaches own (writable t p) → names_of p ≡ Ok names
-  own_path p names own is e (found f) = is ∙ sym f ∙ e
-  own_path p names own is e (missing f) = let differ : Err NotFound ≡ Ok names = sym f ∙ e in absurd cc
+  own_path p names own is e h = grind (arith, found, missing)
 
   -- an append writes at its own path
   pub written : (p : List ℕ) (names : Names) (r : Result Names Fault) → IfOk r (λ n. path_kind home n ≡ Bucket) → names_of p ≡ r → writable t p ≡ Ok names → names_of p ≡ Ok names
-  written p names (Ok own) kind is e = own_path p names own is e (bucket_reached home t p own placed is kind)
-  written p names (Err fault) kind is e = let differ : Err fault ≡ Ok names = sym (unreachable t p fault is) ∙ e in absurd cc
+  written p names r kind is e = grind (arith, own_path, bucket_reached, unreachable)
 
   -- a proper step puts something only at a path of that kind
   pub put_for : (step : PlainStep) (c : TreeChange) (q : Names) (node : Node) → Proper home step → Makes t step c → Puts t c q node → path_kind home q ≡ put_kind step

@@ -1,5 +1,5 @@
 -- Steps one after another.
-use Rattle.std.proofs.Common.{◌≡◌, ℕ, Bool, true, false, cond, List, [], ◌∷◌, ◌++◌, Option, Some, refl, sym, ap, ◌∙◌, append-nil, append_assoc}
+use Rattle.std.proofs.Common.{rules, ◌≡◌, ℕ, Bool, true, false, cond, List, [], ◌∷◌, ◌++◌, Option, Some, refl, sym, ap, ◌∙◌, append-nil, append_assoc}
 use Rattle.cacache_entry.specs.Entry.{Entry}
 use Rattle.cacache_core.specs.Paths.{bucket_names_of}
 use Rattle.cacache_value.specs.{Kinds.{is_path_of}, Value.{Value, wide_value, cache_part}, Acts.{Act, AddEntries, Drop, act_of, change, list_of}, Placed.{Placed}, Traces.{Move, IsTrace, tree_after, acts}, ValueLaws.{StepsKeepPlaced, StepsAct, TracesAct, TracesShow, KeepsBucket, IsLonger, BucketsGrow}}
@@ -32,10 +32,7 @@ whole_placed home t [] placed made = placed
 whole_placed home t (m ∷ moves) placed made = whole_placed home (apply t m.step m.luck).1 moves (step_kept home t placed m.step m.luck made.0).0 made.2
 
 pub traces_show : TracesShow
-traces_show home t before placed rooted made = record {
-  value = whole_after home t before placed made;
-  shows = trees_show home (tree_after t before) (whole_placed home t before placed made) (whole_rooted t before rooted);
-}
+traces_show home t before placed rooted made = search (rules, whole_after, trees_show, whole_placed, whole_rooted)
 
 -- ---- buckets grow
 

@@ -1,5 +1,5 @@
 -- What a commit carries on its way: its bytes, or where its link leads.
-use Rattle.std.proofs.Common.{◌≡◌, ℕ, List, [], ◌∷◌, ◌++◌, Option, None, Some, Result, Ok, Err, length, take, drop, take-append-drop, refl, sym, ap, subst, ◌∙◌, append_assoc}
+use Rattle.std.proofs.{Common.{arith, rules, ◌≡◌, ℕ, List, [], ◌∷◌, ◌++◌, Option, None, Some, Result, Ok, Err, length, take, drop, take-append-drop, refl, sym, ap, subst, ◌∙◌, append_assoc}, lemmas.Grind.{common_steps}}
 use Rattle.cacache_core.specs.{declared.errors.{Fault.{Fault}, SerdeCause.{SerdeCause}, Error.TheVariants.{IntegrityError}, IntegrityFault.TheVariants.{Check}}, PathNames.{Names}, Integrity.{integrity_under, actual}, Meeting.{meets}}
 use Rattle.cacache_store.specs.{declared.store.plain.{PlainTemp.{PlainTemp}, PlainFile.{PlainFile}}, Plain.{PlainStep, PlainAnswer}}
 use Rattle.cacache_store.specs.declared.store.step.Step.TheVariants as steps
@@ -70,32 +70,18 @@ Makes own step = Unit {0}
 -- ---- the step of a state
 
 errand_makes : (own : Own) (errand : Errand) → Makes own (errand_step errand)
-errand_makes own (make_folder path) = tt
-errand_makes own errand = tt
+errand_makes own errand = grind (arith, common_steps)
 
 visit_makes : (own : Own) (v : Visit) → Makes own (visit_step v)
-visit_makes own (Enter p level) = tt
-visit_makes own v = tt
+visit_makes own v = grind (arith, common_steps)
 
 pub carries_makes : (own : Own) (s : State) (step : PlainStep) → Carries own s → wants s ≡ Some step → Makes own step
-carries_makes own (doing errand s) step h w = some_is (Makes own) _ step w (errand_makes own errand)
-carries_makes own (writing c file rest) step h w = some_is (Makes own) (steps.Write file rest) step w tt
-carries_makes own (syncing c file) step h w = some_is (Makes own) (steps.SyncTemp file) step w tt
-carries_makes own (persisting c file) step h w = some_is (Makes own) _ step w h
-carries_makes own (linking c target) step h w = some_is (Makes own) _ step w h
-carries_makes own (sizing t) step h w = some_is (Makes own) (steps.Size t.path) step w tt
-carries_makes own (opening_file (to_link t)) step h w = some_is (Makes own) (steps.Open t.path) step w tt
-carries_makes own (hashing (to_link t) file bytes) step h w = some_is (Makes own) _ step w tt
-carries_makes own (opening_file (to_verify k e)) step h w = some_is (Makes own) (steps.Open (content_path k.cache k.integrity)) step w tt
-carries_makes own (walking w v todo) step h e = some_is (Makes own) _ step e (visit_makes own v)
-carries_makes own (over reply) step h w = absurd cc
-carries_makes own s step h w = some_is (Makes own) _ step w tt
+carries_makes own s step h w = grind (arith, some_is, errand_makes, visit_makes)
 
 -- ---- answers of the disk
 
 temp_unless : (t : Tree) (path : List ℕ) (new : Names → Tree) (r : Result Names Fault) (file : PlainTemp) → temp_in (unless r t (λ names. (answers.Temp (made_temp path), new names))).0 ≡ Ok file → file.bytes ≡ Some []
-temp_unless t path new (Ok names) file e = let same : made_temp path ≡ file = cc in ap (λ f. f.bytes) (sym same)
-temp_unless t path new (Err fault) file e = absurd cc
+temp_unless t path new r file e = grind (arith, common_steps)
 
 temp_made : (t : Tree) (path : List ℕ) (luck : Luck) (file : PlainTemp) → temp_in (apply t (steps.CreateTemp path) luck).0 ≡ Ok file → file.bytes ≡ Some []
 temp_made t path luck file =
@@ -104,11 +90,7 @@ temp_made t path luck file =
 
 temp_grown : (file : PlainTemp) (rest old : List ℕ) (count : ℕ) (known : Option (List ℕ)) (w : PlainTemp × ℕ) → known ≡ Some old → written_in (grown file rest count known) ≡ Ok w
     → w.0.bytes ≡ Some (old ++ take w.1 rest)
-temp_grown file rest old count None w is e = absurd cc
-temp_grown file rest old count (Some bytes) w is e =
-    let same : bytes ≡ old = cc in
-    let pair : ◌≡◌ {A = PlainTemp × ℕ} (record { path = file.path; bytes = Some (bytes ++ take count rest) }, count) w = cc in
-    subst (λ x. x.0.bytes ≡ Some (old ++ take x.1 rest)) pair (ap (λ b. Some (b ++ take count rest)) same)
+temp_grown file rest old count known w is e = grind (arith, common_steps)
 
 temp_written : (t : Tree) (file : PlainTemp) (rest old : List ℕ) (luck : Luck) (w : PlainTemp × ℕ) → file.bytes ≡ Some old → written_in (apply t (steps.Write file rest) luck).0 ≡ Ok w
     → w.0.bytes ≡ Some (old ++ take w.1 rest)
@@ -129,32 +111,22 @@ module _ (own : Own) where
   -- ---- calls that make no content
 
   exports_from : (how : How) (from to : List ℕ) (count : Option ℕ) → Carries own (export_from how from to count)
-  exports_from Copy from to count = tt
-  exports_from how from to count = tt
+  exports_from how from to count = grind (arith, common_steps)
 
   pub exports : (k : Content) (e : Export) → Carries own (export k e)
   exports k e = cond_leads (Carries own) e.checked (opening_file (to_verify k e)) (export_content k e None) (λ _. tt) (λ _. exports_from e.how (content_path k.cache k.integrity) e.to None)
 
   verifies : (k : Content) (e : Export) (bytes : List ℕ) → Carries own (verified k e bytes)
-  verifies k e bytes =
-      cond_leads (Carries own) (meets k.integrity bytes) (export_content k e (Some (length bytes))) (ends_with (IntegrityError (Check k.integrity (actual k.integrity bytes))))
-      (λ _. exports_from e.how (content_path k.cache k.integrity) e.to (Some (length bytes))) (λ _. tt)
+  verifies k e bytes = search (rules, cond_leads, exports_from)
 
   founds : (l : Lookup) (aim : Aim) (found : Option Found) → Carries own (found_for l aim found)
-  founds l aims.Remove (Some f) = tt
-  founds l aims.Read (Some f) = tt
-  founds l (aims.Export e) (Some f) = exports (found_content l f) e
-  founds l aim found = tt
+  founds l aim found = grind (arith, exports)
 
   reads_on : (x : Hashing) (file : PlainFile) (bytes : List ℕ) (got : PlainFile × List ℕ) → Carries own (hashing x file bytes) → Carries own (after_read x bytes got)
-  reads_on (to_link t) file bytes (rest, []) h = h
-  reads_on (to_link t) file bytes (rest, b ∷ bs) h = h
-  reads_on (to_verify k e) file bytes (rest, []) h = verifies k e bytes
-  reads_on (to_verify k e) file bytes (rest, b ∷ bs) h = tt
+  reads_on x file bytes got h = grind (arith, verifies)
 
   opens : (x : Hashing) (file : PlainFile) → Carries own (opening_file x) → Carries own (hashing x file [])
-  opens (to_link t) file h = h
-  opens (to_verify k e) file h = tt
+  opens x file h = grind (arith, common_steps)
 
   -- ---- any step
 
@@ -175,24 +147,10 @@ module _ (own : Own) where
     }
 
     walks_carry : ClosedWalk Told (Carries own) AnyWalk AnyVisit
-    walks_carry = record {
-      visited = λ w v todo h. (tt, (tt, any_visits todo));
-      visiting = λ w v todo h k all. tt;
-      names = λ b level p names br h k i d lt. (tt, tt);
-      left = λ level p h k. tt;
-      cleared = λ h. tt;
-      listed = λ items h. tt;
-    }
+    walks_carry = search (rules, any_visits)
 
     closed : Closed Told (Carries own) AnyWalk AnyVisit
-    closed = record {
-      ends = record { failed = λ s fault h. tt; memory = λ s h. tt; errand = λ e s h. h };
-      commits = commits_carry;
-      inserts = λ i h. (tt, λ p s k. (k, k));
-      reads = record { found = λ l found h. founds l l.aim found; met = λ k bytes e h. tt; unmet = λ k bytes h. tt; asked = λ k there h. tt };
-      files = record { sized = λ x n h. h; opened = λ x file b h. opens x file h; got = λ x file bytes g b h. reads_on x file bytes g h; copied = λ from to count n h. tt };
-      walks = walks_carry;
-    }
+    closed = search (rules, commits_carry, inserts, founds, opens, reads_on, walks_carry)
 
   pub carries_on : (t : Tree) (luck : Luck) (a : PlainAnswer) (s : State) (step : PlainStep) → Carries own s → wants s ≡ Some step → a ≡ (apply t step luck).0 → Carries own (after s a)
   carries_on t luck a s step h w is = kept (Told t luck) (Carries own) AnyWalk AnyVisit (closed t luck) s step a h w is
@@ -200,9 +158,4 @@ module _ (own : Own) where
 -- ---- of a command
 
 pub opening_carries : (site : Site) (command : Command) → Carries (own_of site command) (opening site command)
-opening_carries site (commands.Put p) = (refl, refl)
-opening_carries site (commands.Link l) = refl
-opening_carries site (commands.Insert i) = inserts (own_bytes [] []) (insertion site.cache i) (refused_cause (insertion site.cache i))
-opening_carries site (commands.Delete d) = inserts (own_bytes [] []) (deletion site.cache d) (refused_cause (deletion site.cache d))
-opening_carries site (commands.Export (sources.Hash i) e) = exports (own_bytes [] []) (record { cache = site.cache; integrity = i }) e
-opening_carries site command = tt
+opening_carries site command = grind (arith, inserts, exports)

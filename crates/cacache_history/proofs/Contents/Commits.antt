@@ -1,5 +1,5 @@
 -- Each commit did nothing, put its content, or put its content and then its entry; and what removals did.
-use Rattle.std.proofs.Common.{◌≡◌, ◌⊎◌, inl, inr, ℕ, List, [], ◌∷◌, ◌++◌, Option, None, Some, refl, sym, ap, subst, ◌∙◌, append-nil}
+use Rattle.std.proofs.{Common.{arith, rules, ◌≡◌, ◌⊎◌, inl, inr, ℕ, List, [], ◌∷◌, ◌++◌, Option, None, Some, refl, sym, ap, subst, ◌∙◌, append-nil}, lemmas.Grind.{common_steps}}
 use Rattle.cacache_core.specs.{declared.errors.Error.TheVariants.{OutOfMemory}, Integrity.{integrity_under}}
 use Rattle.cacache_store.specs.Plain.{PlainAnswer}
 use Rattle.cacache_entry.proofs.EntryCauses.{Fits-no_cause}
@@ -12,15 +12,12 @@ use Rattle.cacache_history.specs.{Setup.{Setup, call_site, may_export, is_outsid
 use Rattle.cacache_history.proofs.{Contents.{Carrying.{Own, own_bytes, own_link, put_own, own_of, Makes}, Deeds.{PutsAt, SendsEntry, Realizes, took_entry, turns_realize}, Linked.{CommitsOf, links_read}, Removals.{hash_removed, key_removed, all_cleared}}, Histories.{Holding.{TurnsHold}, Runs.{reached, reply_run, lost_run}}}
 
 content_deed : (own : Own) (c : Commit) (d : Deed) → PutsAt own (content_path c.cache c.computed) d → PutsContent c (put_own own) d
-content_deed own c (does act) h = h
-content_deed own c (finds path) h = h
+content_deed own c d h = grind (arith, common_steps)
 
 module _ (own : Own) (reply : Option Reply) (r : Reply) (refused : IsRefused r → IsNotOk reply) where
   sent_adds : (i : Insertion) (a : PlainAnswer) (new : List Deed) → IsRefused r ⊎ TookAll (bucket_line i) a → SendsEntry (bucket_path i.cache i.entry.key) i.entry a new → InsertionAdds i new reply
   unfolding bucket_line
-  sent_adds i a new (inl e) (inl h) = inl (h.0, refused e)
-  sent_adds i a new (inr took) (inl h) = absurd (h.1 (took_entry i.durable i.entry a took))
-  sent_adds i a new end (inr h) = inr (does (AddEntries h.0 (i.entry ∷ [])), (h.0, h.1, refl), h.2)
+  sent_adds i a new h h2 = grind (arith, took_entry)
 
   adds : (i : Insertion) (es : List Effect) (ds : List Deed) → FormedIfWritten i → Realizes own es ds → Inserts i es r → InsertionAdds i ds reply
   unfolding bucket_line refused_cause
@@ -32,14 +29,10 @@ module _ (own : Own) (reply : Option Reply) (r : Reply) (refused : IsRefused r �
 
   adds_after : (c : Commit) (key : Option (List ℕ)) (es : List Effect) (ds : List Deed) → ((k : List ℕ) → key ≡ Some k → FormedIfWritten (insertion_of c k)) → Realizes own es ds → Indexes c key es r
       → AddsAfter c key ds reply
-  adds_after c None es ds formed real h = subst (λ x. Realizes own x ds) h real
-  adds_after c (Some key) es ds formed real h = adds (insertion_of c key) es ds (formed key refl) real h
+  adds_after c key es ds formed real h = grind (arith, adds)
 
   commits : (c : Commit) (es : List Effect) (ds : List Deed) → ((k : List ℕ) → c.key ≡ Some k → FormedIfWritten (insertion_of c k)) → Realizes own es ds → Commits c es r → CommitsAs c (put_own own) ds reply
-  commits c es ds formed real (inl h) = inl (subst (λ x. Realizes own x ds) h.0 real, refused h.1)
-  commits c es ds formed real (inr h) =
-      let k : Realizes own (stored (content_path c.cache c.computed) ∷ h.0) ds = subst (λ x. Realizes own x ds) h.1 real in
-      inr (k.0, k.1, content_deed own c k.0 k.3, k.2, adds_after c c.key h.0 k.1 formed k.4 h.2)
+  commits c es ds formed real h = grind (arith, content_deed, adds_after)
 
 module _ (s : Setup) (n : ℕ) (reply : Option Reply) (r : Reply) (refused : IsRefused r → IsNotOk reply) where
   links : (t : Target ℕ) (turns : List Turn) → SoundTarget (call_site s n) t → Realizes (own_link t.path) (effects_of (made_in turns)) (deeds turns)
@@ -55,9 +48,7 @@ module _ (s : Setup) (n : ℕ) (reply : Option Reply) (r : Reply) (refused : IsR
   cases (commands.Put p) turns may hold makes run =
       commits (own_bytes p.data (content_path s.cache (integrity_under p.options.algorithm p.data))) reply r refused (put_commit s.cache p) (effects_of (made_in turns)) (deeds turns) may (turns_realize s (own_bytes p.data (content_path s.cache (integrity_under p.options.algorithm p.data))) turns hold makes)
       (puts_commit (call_site s n) p (made_in turns) r run)
-  cases (commands.Link l) turns may hold makes run =
-      links (link_target (call_site s n) l) turns may.0 (turns_realize s (own_link (link_target (call_site s n) l).path) turns hold makes)
-      (links_read (call_site s n) l (made_in turns) r run)
+  cases (commands.Link l) turns may hold makes run = search (rules, links, turns_realize, own_link, links_read)
   cases (commands.Insert i) turns may hold makes run =
       adds (own_bytes [] []) reply r refused (insertion s.cache i) (effects_of (made_in turns)) (deeds turns) may (turns_realize s (own_bytes [] []) turns hold makes)
       (inserts_send (call_site s n) i (made_in turns) r run)
@@ -70,8 +61,7 @@ module _ (s : Setup) (n : ℕ) (reply : Option Reply) (r : Reply) (refused : IsR
   cases other turns may hold makes run = tt
 
 pub plain_refused : (r : Reply) → IsRefused (plain_reply r) → IsNotOk (Some r)
-plain_refused (replies.Refused e) h = tt
-plain_refused r h = absurd h
+plain_refused r h = grind (arith, common_steps)
 
 pub commits_are_cases : (h : History) → IsLegal h → CommitsAreCases h
 commits_are_cases h legal call None reaches =

@@ -1,5 +1,5 @@
 -- What turns do follows from the effects of their steps.
-use Rattle.std.proofs.{Common.{◌≡◌, ◌⊎◌, inl, inr, ◌≤◌, ℕ, Bool, true, false, nat_le, List, [], ◌∷◌, ◌++◌, Option, None, Some, Result, Ok, Err, length, take, refl, sym, ap, subst, ◌∙◌, append-nil, length-append, arith}, lemmas.Bool.{leb-true, leb-false}}
+use Rattle.std.proofs.{lemmas.{Grind.{common_steps}, Bool.{leb-true, leb-false}}, Common.{◌≡◌, ◌⊎◌, inl, inr, ◌≤◌, ℕ, Bool, true, false, nat_le, List, [], ◌∷◌, ◌++◌, Option, None, Some, Result, Ok, Err, length, take, refl, sym, ap, subst, ◌∙◌, append-nil, length-append, arith}}
 use Rattle.cacache_core.specs.{declared.errors.Fault.{Fault}, PathNames.{Names, names_of}}
 use Rattle.cacache_store.specs.{declared.store.plain.PlainTemp.{PlainTemp}, Plain.{PlainStep, PlainAnswer}}
 use Rattle.cacache_store.specs.declared.store.step.Step.TheVariants as steps
@@ -19,8 +19,7 @@ IsFailed (answers.Failed fault) = Unit {0}
 IsFailed a = ⊥
 
 unless_fails : {A : Type 0} (r : Result A Fault) (t : Tree) (go : A → PlainAnswer × Tree) → ((x : A) → IsFailed (go x).0) → IsFailed (unless r t go).0
-unless_fails (Ok x) t go h = h x
-unless_fails (Err fault) t go h = tt
+unless_fails r t go h = grind (arith, common_steps)
 
 pub no_place : (t : Tree) (path : List ℕ) (fault : Fault) → names_of path ≡ Err fault → place t path ≡ Err fault
 unfolding place
@@ -72,8 +71,7 @@ Realizes own (changed step ∷ es) ds = (new : List Deed) × (more : List Deed) 
 -- ---- one step
 
 failed_took : (line : List ℕ) (a : PlainAnswer) → IsFailed a → TookAll line a → ⊥
-failed_took line (answers.Failed fault) f h = h
-failed_took line a f h = absurd f
+failed_took line a f h = grind (arith, common_steps)
 
 took_left : (line : List ℕ) (luck : Luck) (a : PlainAnswer) → TookAll line a → (n : ℕ) × (amount_left luck a ≡ Some n) × (length line ≤ n)
 took_left line luck (answers.Took n) h = (n, refl, h)
@@ -81,8 +79,7 @@ took_left line luck a h = absurd h
 
 -- a closed line that was taken whole was taken without what closes it
 pub took_entry : (durable : Bool) (e : Entry) (a : PlainAnswer) → TookAll (closed_line durable e) a → TookAll (line_of e) a
-took_entry durable e (answers.Took n) h = omega (arith, h, length-append (line_of e) (closing durable))
-took_entry durable e a h = absurd h
+took_entry durable e a h = grind (arith, common_steps)
 
 module _ (path : List ℕ) (e : Entry) (durable : Bool) (formed : IsEntry e) (fits : IsWritable e) (luck : Luck) (a : PlainAnswer) where
   -- what an append of the line did, if so much of it was left
@@ -91,30 +88,15 @@ module _ (path : List ℕ) (e : Entry) (durable : Bool) (formed : IsEntry e) (fi
 
   left_sends : (names : Names) (left : Option ℕ) → names_of path ≡ Ok names → amount_left luck a ≡ left → SendsEntry path e a (left_deeds names left)
   unfolding left_deeds
-  left_sends names None is amount = inl (refl, λ took. let t = took_left (line_of e) luck a took in let no : None ≡ Some t.0 = sym amount ∙ t.1 in absurd cc)
-  left_sends names (Some count) is amount = by (nat_le (length (line_of e)) count) refl
-    where
-      by : (b : Bool) → nat_le (length (line_of e)) count ≡ b → SendsEntry path e a (deeds_of_act (AddEntries names (entries_of (take count (closed_line durable e)))) ++ [])
-      by true l = inr (names, is, ap (λ es. deeds_of_act (AddEntries names es) ++ []) (whole_closed durable e count formed fits (leb-true _ _ l)))
-      by false l =
-          inl (
-            ap (λ es. deeds_of_act (AddEntries names es) ++ []) (torn_closed durable e count formed fits (leb-false _ _ l)),
-            λ took. let t = took_left (line_of e) luck a took in let same : Some count ≡ Some t.0 = sym amount ∙ t.1 in let n : count ≡ t.0 = cc in omega (arith, leb-false _ _ l, t.2, n),
-          )
+  left_sends names left is amount = grind (arith, took_left, whole_closed, torn_closed)
 
   append_sends : (t : Tree) (r : Result Names Fault) → names_of path ≡ r → a ≡ (apply t (steps.Append path (closed_line durable e)) luck).0
       → SendsEntry path e a (deeds_of_act (act_at r (λ names. act_with (amount_left luck a) (λ count. AddEntries names (entries_of (take count (closed_line durable e)))))) ++ [])
   unfolding left_deeds
-  append_sends t (Ok names) is answered = left_sends names (amount_left luck a) is refl
-  append_sends t (Err fault) is answered = inl (refl, failed_took (line_of e) a (subst IsFailed (sym answered) (append_fails t path luck fault is (closed_line durable e))))
+  append_sends t r is answered = grind (arith, left_sends, failed_took, append_fails)
 
 folders_nothing : (r : Result Names Fault) (luck : Luck) (a : PlainAnswer) → deeds_of_act (act_at r (λ names. act_with (folders_left names luck a) (MakeFolders names))) ≡ []
-folders_nothing (Err fault) luck a = refl
-folders_nothing (Ok names) luck a = by (folders_left names luck a)
-  where
-    by : (left : Option ℕ) → deeds_of_act (act_with left (MakeFolders names)) ≡ []
-    by None = refl
-    by (Some count) = refl
+folders_nothing r luck a = grind (arith, common_steps)
 
 module _ (own : Own) (t : Tree) (luck : Luck) (es : List Effect) (ds : List Deed) (h : Realizes own es ds) where
   Goes : PlainStep → PlainAnswer → Type 0
@@ -122,8 +104,7 @@ module _ (own : Own) (t : Tree) (luck : Luck) (es : List Effect) (ds : List Deed
 
   asks : (path : List ℕ) (a : PlainAnswer) → Goes (steps.Exists path) a
   unfolding Goes
-  asks path (answers.There true) = (finds path, ds, refl, refl, h)
-  asks path a = h
+  asks path a = grind (arith, common_steps)
 
   persists : (file : PlainTemp) (path : List ℕ) (a : PlainAnswer) (r : Result Names Fault) (own_is : Own) → own ≡ own_is → names_of path ≡ r → a ≡ (apply t (steps.Persist file path) luck).0
       → Holds own_is file [] → Goes (steps.Persist file path) a
@@ -138,11 +119,7 @@ module _ (own : Own) (t : Tree) (luck : Luck) (es : List Effect) (ds : List Deed
   links : (target path : List ℕ) (a : PlainAnswer) (r : Result Names Fault) (own_is : Own) → own ≡ own_is → names_of path ≡ r → a ≡ (apply t (steps.Symlink target path) luck).0
       → IsTarget own_is target → Goes (steps.Symlink target path) a
   unfolding Goes
-  links target path answers.Done (Ok names) (own_link to) o e is m =
-      (does (PutLink names target), ds, rw e refl, (names, e, ap (PutLink names) m ∙ ap (λ x. put_own x names) (sym o)), h)
-  links target path answers.Done (Ok names) (own_bytes bytes place) o e is m = absurd m
-  links target path answers.Done (Err fault) own_is o e is m = absurd (subst IsFailed (sym is) (link_fails t path luck fault e target))
-  links target path a r own_is o e is m = h
+  links target path a r own_is o e is m = grind (arith, own_link, put_own, own_bytes, link_fails)
 
   appends : (path line : List ℕ) (a : PlainAnswer) → a ≡ (apply t (steps.Append path line) luck).0 → Goes (steps.Append path line) a
   unfolding Goes

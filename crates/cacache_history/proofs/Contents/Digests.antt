@@ -1,5 +1,5 @@
 -- A computed digest is a hash, and makes an integrity.
-use Rattle.std.proofs.{Common.{◌≡◌, ◌<◌, refl, sym, ap, Contains, ℕ, zero, suc, List, [], ◌∷◌, take, arith, slice_index}, lemmas.List.Elements.{All-nil, All-cons}}
+use Rattle.std.proofs.{lemmas.{Grind.{common_steps}, List.Elements.{All-nil, All-cons}}, Common.{rules, ◌≡◌, ◌<◌, refl, sym, ap, Contains, ℕ, zero, suc, List, [], ◌∷◌, take, arith, slice_index}}
 use Rattle.std.specs.{List.{slice_index_or}, Int.{w32, w64, to_be_bytes}}
 use Rattle.base64.specs.GeneralPurpose.{IsBytes}
 use Rattle.sha2.specs.Sha256 as small
@@ -9,8 +9,7 @@ use Rattle.cacache_core.specs.{declared.integrity.{algorithm.Algorithm.{Algorith
 use Rattle.cacache_core.proofs.{Decoded.{bytes_append}, PathLemmas.{sha1_bytes, keys_have_digests}, ProperNames.{be_bytes}}
 
 word_bytes : (n : ℕ) → IsBytes (to_be_bytes w32 n)
-word_bytes n (suc (suc (suc zero))) = omega arith
-word_bytes n i = omega arith
+word_bytes n h = grind (arith, common_steps)
 
 small_bytes : (h : List ℕ) (n : ℕ) → IsBytes (small.digest_bytes h n)
 unfolding small.digest_bytes
@@ -44,16 +43,12 @@ sha512_bytes m = large_bytes (large.final_hash large.initial_hash_512 m) 8
 
 -- the digest of bytes under any algorithm
 pub digest_hash : (a : Algorithm) (m : List ℕ) → IsHash (hash_of a (digest a m))
-digest_hash Sha1 m = record { bytes = sha1_bytes m; long_enough = omega (arith, (keys_have_digests m).size) }
-digest_hash Sha256 m = record { bytes = sha256_bytes m; long_enough = omega (arith, length-sha256 m) }
-digest_hash Sha384 m = record { bytes = sha384_bytes m; long_enough = omega (arith, length-sha384 m) }
-digest_hash Sha512 m = record { bytes = sha512_bytes m; long_enough = omega (arith, length-sha512 m) }
+digest_hash a m = grind (arith, sha1_bytes, keys_have_digests, sha256_bytes, length-sha256, sha384_bytes, length-sha384, sha512_bytes, length-sha512)
 
 -- ---- an integrity
 
 pub own_ordered : (a : Algorithm) (d : List ℕ) → strongest_first (hash_of a d ∷ []) ≡ hash_of a d ∷ []
-own_ordered Sha1 d = refl
-own_ordered a d = refl
+own_ordered a d = grind (arith, common_steps)
 
 -- the digest alone makes one
 pub own_integrity : (a : Algorithm) (bytes : List ℕ) → IsIntegrity (integrity_under a bytes)
@@ -66,11 +61,7 @@ own_integrity a bytes = record {
 -- ---- bytes that meet it
 
 pub one_of : (x y : Hash) → Contains (x ∷ []) y → x ≡ y
-one_of x y c = by c.0 c.1 c.2
-  where
-    by : (k : ℕ) → k < 1 → slice_index_or (x ∷ []) k y ≡ y → x ≡ y
-    by zero lt e = e
-    by (suc k) lt e = absurd (omega (arith, lt))
+one_of x y c = search rules
 
 pub same_digest : (a : Algorithm) (bytes others : List ℕ) → Meets (integrity_under a bytes) others → digest a others ≡ digest a bytes
 same_digest a bytes others met = sym (ap (λ (x : Hash). x.digest) (one_of (hash_of a (digest a bytes)) (hash_of a (digest a others)) met))

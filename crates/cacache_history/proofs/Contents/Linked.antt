@@ -43,8 +43,7 @@ module _ (r : Reply) (c : Commit) (target : List ℕ) (file : PlainTemp) where
       moves_on (λ s. Twin s moves r) c file (record { twin = (steps.SyncTemp file, answers.Synced file) ∷ x.twin; runs = (refl, refl, x.runs); same = x.same }) x
 
   made : (a : Result (Unit {0}) Refusal) (moves : Moves) → Runs (go_on a fails (λ _. linking c target)) moves r → Twin (go_on a fails (λ _. move_in c file)) moves r
-  made (Ok done) moves run = first_synced moves (linked moves run)
-  made (Err refusal) moves run = record { twin = moves; runs = run; same = refl }
+  made a moves run = grind (arith, first_synced, linked)
 
   into_folder : (moves : Moves) → Runs (link c target) moves r → Twin (persist c file) moves r
   into_folder [] (inl e) = absurd cc
@@ -100,8 +99,7 @@ module _ (r : Reply) where
   over_nothing e (m ∷ moves) run = absurd (let none : None ≡ Some m.0 = run.0 in cc)
 
   refused_by : (refusal : Refusal) (moves : Moves) → Runs (refuse refusal fails) moves r → DoesNothing (effects_of moves) r
-  refused_by (refusals.Fault fault) moves run = over_nothing _ moves run
-  refused_by refusals.Memory moves run = over_nothing _ moves run
+  refused_by refusal moves run = grind (arith, over_nothing)
 
 -- ---- the target is read
 

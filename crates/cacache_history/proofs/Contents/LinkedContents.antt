@@ -1,5 +1,5 @@
 -- A content that is a link is of bytes that its target held when its call opened it.
-use Rattle.std.proofs.Common.{◌≡◌, inl, inr, ℕ, true, List, [], ◌∷◌, ◌++◌, Option, None, Some, option_map, Result, Ok, Err, refl, sym, ap, subst, ◌∙◌, append_assoc, append-nil}
+use Rattle.std.proofs.{Common.{arith, rules, ◌≡◌, inl, inr, ℕ, true, List, [], ◌∷◌, ◌++◌, Option, None, Some, option_map, Result, Ok, Err, refl, sym, ap, subst, ◌∙◌, append_assoc, append-nil}, lemmas.Grind.{common_steps}}
 use Rattle.cacache_core.specs.{declared.{errors.{Fault.{Fault}, Error.TheVariants.{OutOfMemory}}, integrity.digest.Hash.{Hash}}, Integrity.{IsHash}, PathNames.{Names}, Paths.{content_names}}
 use Rattle.cacache_core.specs.declared.errors.Fault.TheVariants as faults
 use Rattle.cacache_store.specs.{declared.store.plain.PlainFile.{PlainFile}, Plain.{PlainAnswer}}
@@ -16,13 +16,10 @@ use Rattle.cacache_history.proofs.{Contents.{Carrying.{own_of, Makes, carries_ma
 -- ---- what an opening shows
 
 made_up_file : (r : Result (List ℕ) Fault) (fault : Fault) → ShowsContent r (answers.Failed (made_up fault))
-made_up_file r faults.NotFound = tt
-made_up_file r other = tt
+made_up_file r fault = grind (arith, common_steps)
 
 file_shown : (t : Tree) (r : Result (List ℕ) Fault) → ShowsContent r (unless r t (λ bytes. (answers.File (opened bytes), t))).0
-file_shown t (Ok bytes) = (bytes, refl, refl)
-file_shown t (Err faults.NotFound) = refl
-file_shown t (Err other) = tt
+file_shown t r = grind (arith, common_steps)
 
 -- the open file has the bytes of the one that the path leads to
 file_given : (t : Tree) (path : List ℕ) (luck : Luck) (a : PlainAnswer) (file : PlainFile) → a ≡ (apply t (steps.Open path) luck).0 → a ≡ answers.File file
@@ -103,8 +100,7 @@ module _ (h : History) (legal : IsLegal h) where
 
   -- a record that leaves the tree
   same_tree : (past : List Record) (r : Record) → (now_at h (past ++ r ∷ [])).tree ≡ (now_at h past).tree → WereRight h past → WereRight h (past ++ r ∷ [])
-  same_tree past r tree right a target is_hash e =
-      still_held past r a target (right a target is_hash (ap (λ t. (value_of_tree (home h.setup) t).contents a) (sym tree) ∙ e))
+  same_tree past r tree right a target is_hash e = search (rules, still_held)
 
   move_right : (past later : List Record) (caller : ℕ) (luck : Luck) (made : Made) (reply : Option Reply) → h.records ≡ past ++ Moved caller luck (Some made) reply ∷ later
       → WereRight h past → WereRight h (past ++ Moved caller luck (Some made) reply ∷ [])
@@ -131,13 +127,10 @@ module _ (h : History) (legal : IsLegal h) where
       ]
 
   next_right : (past later : List Record) (r : Record) → h.records ≡ past ++ r ∷ later → WereRight h past → WereRight h (past ++ r ∷ [])
-  next_right past later (Began caller command) is right =
-      same_tree past (Began caller command) (ap (λ w. w.tree) (replay_more h.setup (initial h.setup) past (Began caller command ∷ []))) right
-  next_right past later (Moved caller luck None reply) is right =
-      same_tree past (Moved caller luck None reply) (ap (λ w. w.tree) (replay_more h.setup (initial h.setup) past (Moved caller luck None reply ∷ []))) right
+  next_right past later (Began caller command) is right = search (rules, same_tree, replay_more)
+  next_right past later (Moved caller luck None reply) is right = search (rules, same_tree, replay_more)
   next_right past later (Moved caller luck (Some made) reply) is right = move_right past later caller luck made reply is right
-  next_right past later (Stopped caller) is right =
-      same_tree past (Stopped caller) (ap (λ w. w.tree) (replay_more h.setup (initial h.setup) past (Stopped caller ∷ []))) right
+  next_right past later (Stopped caller) is right = search (rules, same_tree, replay_more)
 
   all_right : (past todo later : List Record) → h.records ≡ past ++ (todo ++ later) → WereRight h past → WereRight h (past ++ todo)
   all_right past [] later is right = subst (WereRight h) (sym (append-nil past)) right

@@ -1,5 +1,5 @@
 -- A content that was opened and read to its end gave the bytes that the cache held when it was opened.
-use Rattle.std.proofs.Common.{◌≡◌, ◌==◌, ◌<◌, ℕ, zero, suc, Bool, true, false, cond, List, ◌∷◌, ◌++◌, Option, None, Some, length, take, drop, take-append-drop, refl, sym, ap, subst, ◌∙◌, arith}
+use Rattle.std.proofs.{lemmas.Grind.{common_steps}, Common.{◌≡◌, ◌==◌, ◌<◌, ℕ, zero, suc, Bool, true, false, cond, List, ◌∷◌, ◌++◌, Option, None, Some, length, take, drop, take-append-drop, refl, sym, ap, subst, ◌∙◌, arith}}
 use Rattle.std.specs.Prelude.{max, []}
 use Rattle.cacache_core.specs.declared.errors.Fault.TheVariants as faults
 use Rattle.cacache_store.specs.{declared.store.plain.PlainFile.{PlainFile}, Plain.{PlainStep, PlainAnswer}}
@@ -17,22 +17,13 @@ AsksPiece (steps.Read file max) = max ≡ piece
 AsksPiece step = Unit {0}
 
 errand_asks : (errand : Errand) → AsksPiece (errand_step errand)
-errand_asks (make_folder path) = tt
-errand_asks errand = tt
+errand_asks errand = grind (arith, common_steps)
 
 visit_asks : (v : Visit) → AsksPiece (visit_step v)
-visit_asks (Enter p level) = tt
-visit_asks v = tt
+visit_asks v = grind (arith, common_steps)
 
 state_asks : (s : State) (step : PlainStep) → wants s ≡ Some step → AsksPiece step
-state_asks (doing errand s) step w = some_is AsksPiece _ step w (errand_asks errand)
-state_asks (writing c file rest) step w = some_is AsksPiece (steps.Write file rest) step w tt
-state_asks (syncing c file) step w = some_is AsksPiece (steps.SyncTemp file) step w tt
-state_asks (sizing t) step w = some_is AsksPiece (steps.Size t.path) step w tt
-state_asks (hashing h file bytes) step w = some_is AsksPiece (steps.Read file piece) step w refl
-state_asks (walking v visit todo) step w = some_is AsksPiece _ step w (visit_asks visit)
-state_asks (over reply) step w = absurd cc
-state_asks s step w = some_is AsksPiece _ step w tt
+state_asks s step w = grind (arith, some_is, errand_asks, visit_asks)
 
 abbrev pub EachAsks : Moves → Type 0
 EachAsks [] = Unit {0}
@@ -50,9 +41,7 @@ GivesNext all (answers.Got file bytes) = (rest : List ℕ) × (file.bytes ≡ So
 GivesNext all a = Unit {0}
 
 pub no_first : (size : ℕ) (all : List ℕ) → 0 < size → take size all ≡ [] → all ≡ []
-no_first zero all lt e = absurd (omega (arith, lt))
-no_first (suc size) [] lt e = refl
-no_first (suc size) (b ∷ bs) lt e = absurd cc
+no_first size all lt e = grind (arith, common_steps)
 
 given_next : (file : PlainFile) (size : ℕ) (all : List ℕ) → 0 < size → GivesNext all (given file size (Some all))
 given_next file size all lt = by (file.left == length all)
@@ -62,8 +51,7 @@ given_next file size all lt = by (file.left == length all)
     by false = tt
 
 pub some_readable : (most : Option ℕ) (size : ℕ) → 0 < size → 0 < readable most size
-some_readable None size lt = lt
-some_readable (Some most) size lt = omega (arith, lt)
+some_readable most size lt = grind (arith, common_steps)
 
 next_given : (t : Tree) (file : PlainFile) (size : ℕ) (luck : Luck) (all : List ℕ) → file.bytes ≡ Some all → 0 < size → GivesNext all (apply t (steps.Read file size) luck).0
 next_given t file size luck all e lt =

@@ -1,5 +1,5 @@
 -- The step that puts a link, and its deed among those of its call.
-use Rattle.std.proofs.Common.{◌≡◌, ◌⊎◌, inl, inr, ℕ, Bool, true, false, cond, List, [], ◌∷◌, ◌++◌, Option, None, Some, Ok, refl, sym, ap, subst, ◌∙◌}
+use Rattle.std.proofs.{Common.{arith, rules, ◌≡◌, ◌⊎◌, inl, inr, ℕ, Bool, true, false, cond, List, [], ◌∷◌, ◌++◌, Option, None, Some, Ok, refl, sym, ap, subst, ◌∙◌}, lemmas.Grind.{common_steps}}
 use Rattle.cacache_core.specs.{declared.integrity.digest.Hash.{Hash}, PathNames.{Names, names_of}, Paths.{content_names}}
 use Rattle.cacache_store.specs.declared.store.step.Step.TheVariants as steps
 use Rattle.cacache_store.specs.Plain.{PlainStep, PlainAnswer}
@@ -15,8 +15,7 @@ abbrev pub IsLinkTo : List ℕ → PlainStep → Type 0
 IsLinkTo target step = (path : List ℕ) × (step ≡ steps.Symlink target path)
 
 act_link : (step : PlainStep) (names : Names) (target : List ℕ) → MayAct (PutLink names target) step → IsLinkTo target step
-act_link (steps.Symlink to p) names target is = (p, ap (λ t. steps.Symlink t p) is.1)
-act_link step names target is = absurd is
+act_link step names target is = grind (arith, common_steps)
 
 pub link_step : (step : PlainStep) (luck : Luck) (a : PlainAnswer) (names : Names) (target : List ℕ) → act_of step luck a ≡ PutLink names target → IsLinkTo target step
 link_step step luck a names target e = act_link step names target (subst (λ act. MayAct act step) e (acts_so step luck a))
@@ -29,23 +28,17 @@ PutsLink folder act a target = (names : Names) × (act ≡ PutLink names target)
 
 by_link : (folder : Option Names) (path : Names) (to : List ℕ) (a : Hash) (target : List ℕ) (old : Option Blob) (b : Bool) → is_path_of folder (content_names a) path ≡ b
     → cond b (Some (AtLink to)) old ≡ Some (AtLink target) → (old ≡ Some (AtLink target)) ⊎ PutsLink folder (PutLink path to) a target
-by_link folder path to a target old true is e = inr (path, (let t : to ≡ target = cc in ap (PutLink path) t), is)
-by_link folder path to a target old false is e = inl e
+by_link folder path to a target old b is e = grind (arith, common_steps)
 
 by_bytes : (bytes target : List ℕ) (old : Option Blob) (b : Bool) → cond b (Some (InFile bytes)) old ≡ Some (AtLink target) → old ≡ Some (AtLink target)
-by_bytes bytes target old true e = absurd cc
-by_bytes bytes target old false e = e
+by_bytes bytes target old b e = grind (arith, common_steps)
 
 by_drop : (target : List ℕ) (old : Option Blob) (b : Bool) → cond b None old ≡ Some (AtLink target) → old ≡ Some (AtLink target)
-by_drop target old true e = absurd cc
-by_drop target old false e = e
+by_drop target old b e = grind (arith, common_steps)
 
 pub from_act : (folder : Option Names) (v : Value) (act : Act) (a : Hash) (target : List ℕ) → (change folder act v).contents a ≡ Some (AtLink target)
     → (v.contents a ≡ Some (AtLink target)) ⊎ PutsLink folder act a target
-from_act folder v (PutLink path to) a target e = by_link folder path to a target (v.contents a) (is_path_of folder (content_names a) path) refl e
-from_act folder v (PutBytes path bytes) a target e = inl (by_bytes bytes target (v.contents a) (is_path_of folder (content_names a) path) e)
-from_act folder v (Drop path) a target e = inl (by_drop target (v.contents a) (is_path_of folder (content_names a) path) e)
-from_act folder v act a target e = inl e
+from_act folder v act a target e = grind (arith, by_link, by_bytes, by_drop)
 
 -- ---- the deed among those of its call
 
@@ -58,28 +51,19 @@ module _ (names : Names) (target : List ℕ) where
   the_link = does (PutLink names target)
 
   pub link_deed : (m : Move) → act_of m.step m.luck m.answer ≡ PutLink names target → IsAmong the_link (deeds_of m)
-  link_deed m e =
-      any_left (λ (x : Deed). the_link ≡ x) (deeds_of_act (act_of m.step m.luck m.answer)) (finds_in m.step m.answer)
-      (subst (λ act. IsAmong the_link (deeds_of_act act)) (sym e) (inl refl))
+  link_deed m e = search (rules, any_left)
 
   pub not_among : (ds : List Deed) → ds ≡ [] → IsAmong the_link ds → ⊥
   not_among ds none among = subst (IsAmong the_link) none among
 
   not_entry : (i : Insertion) (d : Deed) → IsAdded i d → the_link ≡ d → ⊥
-  not_entry i (does act) is same = let no : PutLink names target ≡ AddEntries is.0 (i.entry ∷ []) = (let x : PutLink names target ≡ act = cc in x ∙ is.2) in absurd cc
-  not_entry i (finds path) is same = absurd cc
+  not_entry i d is same = grind (arith, common_steps)
 
   not_added : (i : Insertion) (ds : List Deed) (reply : Option Reply) → InsertionAdds i ds reply → IsAmong the_link ds → ⊥
-  not_added i ds reply (inl nothing) among = not_among ds nothing.0 among
-  not_added i ds reply (inr h) among =
-      elim (subst (IsAmong the_link) h.2 among) [
-        | inl same ↦ not_entry i h.0 h.1 same
-        | inr none ↦ none
-      ]
+  not_added i ds reply h among = grind (arith, not_among, not_entry)
 
   not_after : (c : Commit) (key : Option (List ℕ)) (ds : List Deed) (reply : Option Reply) → AddsAfter c key ds reply → IsAmong the_link ds → ⊥
-  not_after c None ds reply none among = not_among ds none among
-  not_after c (Some key) ds reply adds among = not_added (insertion_of c key) ds reply adds among
+  not_after c key ds reply none among = grind (arith, not_among, not_added)
 
   content_place : (c : Commit) (to : List ℕ) (content : Deed) → PutsContent c (λ n. PutLink n to) content → the_link ≡ content → names_of (content_path c.cache c.computed) ≡ Ok names
   content_place c to (does act) is same =
@@ -91,9 +75,4 @@ module _ (names : Names) (target : List ℕ) where
   -- a commit put its link at the place of its own digest
   pub committed : (c : Commit) (to : List ℕ) (ds : List Deed) (reply : Option Reply) → CommitsAs c (λ n. PutLink n to) ds reply → IsAmong the_link ds
       → names_of (content_path c.cache c.computed) ≡ Ok names
-  committed c to ds reply (inl nothing) among = absurd (not_among ds nothing.0 among)
-  committed c to ds reply (inr h) among =
-      elim (subst (IsAmong the_link) h.3 among) [
-        | inl same ↦ content_place c to h.0 h.2 same
-        | inr more ↦ absurd (not_after c c.key h.1 reply h.4 more)
-      ]
+  committed c to ds reply h among = grind (arith, not_among, content_place, not_after)

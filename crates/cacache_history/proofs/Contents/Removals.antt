@@ -1,5 +1,5 @@
 -- A removal removes at most its content; that of a key also the key's bucket; a clearing adds nothing.
-use Rattle.std.proofs.Common.{◌≡◌, inl, inr, ℕ, true, false, List, [], ◌∷◌, ◌++◌, Option, None, Some, Result, Ok, Err, refl, sym, ap, subst, ◌∙◌}
+use Rattle.std.proofs.{Common.{arith, ◌≡◌, inl, inr, ℕ, true, false, List, [], ◌∷◌, ◌++◌, Option, None, Some, Result, Ok, Err, refl, sym, ap, subst, ◌∙◌}, lemmas.Grind.{common_steps}}
 use Rattle.cacache_core.specs.{declared.{errors.Fault.{Fault}, integrity.digest.Hash.{Hash}}, PathNames.{Names, names_of}}
 use Rattle.cacache_core.specs.declared.errors.Fault.TheVariants as faults
 use Rattle.cacache_store.specs.declared.store.answer.Answer.TheVariants as answers
@@ -32,17 +32,13 @@ did step luck a = deeds_of (record { step = step; luck = luck; answer = a })
 
 module _ (path : List ℕ) (next : State) (paths : List (List ℕ)) (r : Reply) (drops : (turns : List Turn) → Runs next (made_in turns) r → DropsAmong paths (deeds turns)) where
   dropped : (names : Result Names Fault) (ds : List Deed) → names_of path ≡ names → DropsAmong paths ds → DropsAmong (path ∷ paths) ((deeds_of_act (act_at names Drop) ++ []) ++ ds)
-  dropped (Ok names) ds is h = inr (names, ds, is, refl, h)
-  dropped (Err fault) ds is h = inl h
+  dropped names ds is h = grind (arith, common_steps)
 
   stopped : (q : Reply) (more : List Turn) (ds : List Deed) → ds ≡ [] → Runs (over q) (made_in more) r → DropsAmong (path ∷ paths) (ds ++ deeds more)
   stopped q more ds none run = subst (DropsAmong (path ∷ paths)) (sym (ap (λ x. x ++ deeds more) none ∙ ended_deeds q r more run)) (none_dropped (path ∷ paths))
 
   answered : (luck : Luck) (a : PlainAnswer) (more : List Turn) → Runs (after (doing (remove path) next) a) (made_in more) r → DropsAmong (path ∷ paths) (did (steps.RemoveFile path) luck a ++ deeds more)
-  answered luck answers.Done more run = dropped (names_of path) (deeds more) refl (drops more run)
-  answered luck (answers.Failed fault) more run = stopped _ more (did (steps.RemoveFile path) luck (answers.Failed fault)) refl run
-  answered luck (answers.NoMemory step) more run = stopped _ more (did (steps.RemoveFile path) luck (answers.NoMemory step)) refl run
-  answered luck a more run = stopped _ more (did (steps.RemoveFile path) luck a) refl run
+  answered luck a more run = grind (arith, dropped, stopped)
 
   removed : (turns : List Turn) → Runs (doing (remove path) next) (made_in turns) r → DropsAmong (path ∷ paths) (deeds turns)
   removed [] run = none_dropped (path ∷ paths)
@@ -92,27 +88,7 @@ module _ (cache key : List ℕ) (r : Reply) where
 
 -- a step that may list and remove adds nothing
 removal_only : (step : PlainStep) (luck : Luck) (a : PlainAnswer) → May (allows (licence commands.Clear) step) → AreRemovals (did step luck a)
-removal_only (steps.ReadAll p) luck a may = tt
-removal_only (steps.Open p) luck a may = tt
-removal_only (steps.Read f max) luck a may = tt
-removal_only (steps.Exists p) luck (answers.There true) may = (tt, tt)
-removal_only (steps.Exists p) luck (answers.There false) may = tt
-removal_only (steps.Exists p) luck a may = tt
-removal_only (steps.Size p) luck a may = tt
-removal_only (steps.ReadDir p) luck a may = tt
-removal_only (steps.RemoveFile p) luck answers.Done may = by (names_of p)
-  where
-    by : (r : Result Names Fault) → AreRemovals (deeds_of_act (act_at r Drop) ++ [])
-    by (Ok names) = (tt, tt)
-    by (Err fault) = tt
-removal_only (steps.RemoveFile p) luck a may = tt
-removal_only (steps.RemoveDir p) luck answers.Done may = by (names_of p)
-  where
-    by : (r : Result Names Fault) → AreRemovals (deeds_of_act (act_at r DropFolder) ++ [])
-    by (Ok names) = tt
-    by (Err fault) = tt
-removal_only (steps.RemoveDir p) luck a may = tt
-removal_only step luck a may = absurd may
+removal_only step luck a may = grind (arith, common_steps)
 
 all_removals : (turns : List Turn) → AllMay (licence commands.Clear) (made_in turns) → AreRemovals (deeds turns)
 all_removals [] may = tt

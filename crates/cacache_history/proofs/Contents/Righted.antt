@@ -1,5 +1,5 @@
 -- Each content that is bytes has the digest of its address.
-use Rattle.std.proofs.{Common.{◌≡◌, ℕ, Bool, true, false, cond, List, [], ◌++◌, Option, None, Some, Ok, refl, sym, ap, subst, ◌∙◌, append-nil, arith}, lemmas.{List.{append_cancel_left}, Option.{same_Some}}}
+use Rattle.std.proofs.{lemmas.{Grind.{common_steps}, List.{append_cancel_left}, Option.{same_Some}}, Common.{◌≡◌, ℕ, Bool, true, false, cond, List, [], ◌++◌, Option, None, Some, Ok, refl, sym, ap, subst, ◌∙◌, append-nil, arith}}
 use Rattle.cacache_core.specs.{declared.integrity.{algorithm.Algorithm.{Algorithm}, digest.Hash.{Hash}}, Digests.{digest}, Integrity.{IsHash, hash_of, integrity_under}, PathNames.{Names, names_of, home_of, names_below}, Paths.{joined, content_names}}
 use Rattle.cacache_core.proofs.{JoinedNames.{joined_texts_name}, PathTexts.{paths_differ}, ProperNames.{names_are_proper}}
 use Rattle.cacache_store.specs.{declared.store.plain.PlainTemp.{PlainTemp}, Plain.{PlainStep}}
@@ -25,24 +25,18 @@ PutsRight folder act = Unit {0}
 
 put_right : (h : Hash) (bytes new : List ℕ) (b : Bool) (old : Option Blob) → (b ≡ true → HasDigest h new) → (old ≡ Some (InFile bytes) → HasDigest h bytes)
     → cond b (Some (InFile new)) old ≡ Some (InFile bytes) → HasDigest h bytes
-put_right h bytes new true old right h0 e = let same : new ≡ bytes = cc in subst (HasDigest h) same (right refl)
-put_right h bytes new false old right h0 e = h0 e
+put_right h bytes new b old right h0 e = grind (arith, common_steps)
 
 link_right : (h : Hash) (bytes target : List ℕ) (b : Bool) (old : Option Blob) → (old ≡ Some (InFile bytes) → HasDigest h bytes)
     → cond b (Some (AtLink target)) old ≡ Some (InFile bytes) → HasDigest h bytes
-link_right h bytes target true old h0 e = absurd cc
-link_right h bytes target false old h0 e = h0 e
+link_right h bytes target b old h0 e = grind (arith, common_steps)
 
 drop_right : (h : Hash) (bytes : List ℕ) (b : Bool) (old : Option Blob) → (old ≡ Some (InFile bytes) → HasDigest h bytes)
     → cond b None old ≡ Some (InFile bytes) → HasDigest h bytes
-drop_right h bytes true old h0 e = absurd cc
-drop_right h bytes false old h0 e = h0 e
+drop_right h bytes b old h0 e = grind (arith, common_steps)
 
 change_right : (folder : Option Names) (v : Value) (act : Act) → PutsRight folder act → AreRight v.contents → AreRight (change folder act v).contents
-change_right folder v (PutBytes path new) p r h is bytes = put_right h bytes new (is_path_of folder (content_names h) path) (v.contents h) (p h is) (r h is bytes)
-change_right folder v (PutLink path target) p r h is bytes = link_right h bytes target (is_path_of folder (content_names h) path) (v.contents h) (r h is bytes)
-change_right folder v (Drop path) p r h is bytes = drop_right h bytes (is_path_of folder (content_names h) path) (v.contents h) (r h is bytes)
-change_right folder v act p r h is bytes = r h is bytes
+change_right folder v act p r h is bytes = grind (arith, put_right, link_right, drop_right)
 
 -- ---- what a command puts
 

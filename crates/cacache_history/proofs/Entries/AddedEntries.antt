@@ -1,5 +1,5 @@
 -- Each entry that a commit added names a content that is there, unless a step removed it.
-use Rattle.std.proofs.Common.{◌≡◌, ◌⊎◌, inl, inr, ℕ, Bool, true, false, cond, List, [], ◌∷◌, ◌++◌, Option, None, Some, Ok, refl, sym, ap, subst, ◌∙◌, append-nil, append_assoc}
+use Rattle.std.proofs.{Common.{arith, rules, ◌≡◌, ◌⊎◌, inl, inr, ℕ, Bool, true, false, cond, List, [], ◌∷◌, ◌++◌, Option, None, Some, Ok, refl, sym, ap, subst, ◌∙◌, append-nil, append_assoc}, lemmas.Grind.{common_steps}}
 use Rattle.cacache_core.specs.{declared.integrity.{algorithm.Algorithm.{Algorithm}, digest.Hash.{Hash}}, Digests.{digest}, Integrity.{IsHash, hash_of, integrity_under}, PathNames.{Names, names_of, names_below}, Paths.{content_names}, Texts.{integrity_text}}
 use Rattle.cacache_store.specs.declared.store.step.Step.TheVariants as steps
 use Rattle.cacache_store.specs.declared.store.answer.Answer.TheVariants as answers
@@ -35,51 +35,29 @@ done_at h d (turn ∷ turns) hold at is =
     ]
 
 pub act_is : (act of : Act) → IsAmong (does act) (deeds_of_act of) → of ≡ act
-act_is act (PutBytes names bytes) (inl e) = cc
-act_is act (PutBytes names bytes) (inr none) = absurd none
-act_is act (PutLink names target) (inl e) = cc
-act_is act (PutLink names target) (inr none) = absurd none
-act_is act (AddEntries names (e ∷ es)) (inl same) = cc
-act_is act (AddEntries names (e ∷ es)) (inr none) = absurd none
-act_is act (Drop names) (inl e) = cc
-act_is act (Drop names) (inr none) = absurd none
-act_is act of h = absurd h
+act_is act of h = grind (arith, common_steps)
 
 pub not_found : (act : Act) (step : PlainStep) (answer : PlainAnswer) → IsAmong (does act) (finds_in step answer) → ⊥
-not_found act (steps.Exists path) (answers.There true) (inl e) = absurd cc
-not_found act (steps.Exists path) (answers.There true) (inr none) = absurd none
-not_found act step answer h = absurd h
+not_found act step answer h = grind (arith, common_steps)
 
 not_done : (path : List ℕ) (of : Act) → IsAmong (finds path) (deeds_of_act of) → ⊥
-not_done path (PutBytes names bytes) (inl e) = absurd cc
-not_done path (PutBytes names bytes) (inr none) = absurd none
-not_done path (PutLink names target) (inl e) = absurd cc
-not_done path (PutLink names target) (inr none) = absurd none
-not_done path (AddEntries names (e ∷ es)) (inl same) = absurd cc
-not_done path (AddEntries names (e ∷ es)) (inr none) = absurd none
-not_done path (Drop names) (inl e) = absurd cc
-not_done path (Drop names) (inr none) = absurd none
-not_done path of h = absurd h
+not_done path of h = grind (arith, common_steps)
 
 -- a question with the answer yes
 abbrev FoundIn : List ℕ → PlainStep → PlainAnswer → Type 0
 FoundIn path step answer = (step ≡ steps.Exists path) × (answer ≡ answers.There true)
 
 found_in : (path : List ℕ) (step : PlainStep) (answer : PlainAnswer) → IsAmong (finds path) (finds_in step answer) → FoundIn path step answer
-found_in path (steps.Exists p) (answers.There true) (inl e) = (let same : p ≡ path = cc in ap steps.Exists same, refl)
-found_in path (steps.Exists p) (answers.There true) (inr none) = absurd none
-found_in path step answer h = absurd h
+found_in path step answer h = grind (arith, common_steps)
 
 -- ---- the content at an address
 
 there_from : (b : Bool) (blob : Blob) (old : Option Blob) → b ≡ true → IsThere (cond b (Some blob) old)
-there_from true blob old e = tt
-there_from false blob old e = absurd cc
+there_from b blob old e = grind (arith, common_steps)
 
 own_there : (folder : Option Names) (v : Value) (a : Hash) (own : Own) (names : Names) → is_path_of folder (content_names a) names ≡ true
     → IsThere ((change folder (put_own own names) v).contents a)
-own_there folder v a (own_bytes bytes place) names e = there_from (is_path_of folder (content_names a) names) (InFile bytes) (v.contents a) e
-own_there folder v a (own_link target) names e = there_from (is_path_of folder (content_names a) names) (AtLink target) (v.contents a) e
+own_there folder v a own names e = grind (arith, own_bytes, there_from, own_link)
 
 here : (folder : Option Names) (a : Hash) (names : Names) → names_below folder (content_names a) ≡ Ok names → is_path_of folder (content_names a) names ≡ true
 here None a names e = absurd cc
@@ -89,8 +67,7 @@ here (Some folder) a names e =
 
 -- what blob an answer of yes is about
 pub blob_is : (t : Tree) (blob : Option Blob) → there_in (blob_there t blob) ≡ Ok true → IsThere blob
-blob_is t None e = absurd cc
-blob_is t (Some blob) e = tt
+blob_is t blob e = grind (arith, common_steps)
 
 -- ---- the acts of records
 
@@ -153,18 +130,10 @@ module _ (h : History) (legal : IsLegal h) (a : Hash) (is_hash : IsHash a) where
         | inl did ↦ put_stays d.turn own is.0 d.at (act_is act _ did ∙ is.2) (sym (content_below h.setup a [] is_hash) ∙ ap names_of (sym at) ∙ is.1) keeps
         | inr found ↦ absurd (not_found act d.turn.move.step d.turn.move.answer found)
       ]
-  content_stays c own (finds path) at is d keeps =
-      elim (either (finds path) (deeds_of_act (act_of d.turn.move.step d.turn.move.luck d.turn.move.answer)) (finds_in d.turn.move.step d.turn.move.answer) d.did) [
-        | inl did ↦ absurd (not_done path _ did)
-        | inr found ↦
-            let f = found_in path d.turn.move.step d.turn.move.answer found in
-            find_stays d.turn d.holds d.at (f.0 ∙ ap steps.Exists (is ∙ at)) f.1 keeps
-      ]
+  content_stays c own (finds path) at is d keeps = search (rules, either, not_done, found_in, find_stays)
 
   right_blob : (blob : Option Blob) → IsThere blob → ((bytes : List ℕ) → blob ≡ Some (InFile bytes) → HasDigest a bytes) → IsContentOf a blob
-  right_blob None there right = absurd there
-  right_blob (Some (InFile bytes)) there right = right bytes refl
-  right_blob (Some (AtLink target)) there right = tt
+  right_blob blob there right = grind (arith, common_steps)
 
   content_right : Here h.records → IsContentOf a ((value_at h h.records).contents a)
   content_right there =
@@ -182,9 +151,7 @@ pub record Backed (c : Commit) (own : Own) (ds : List Deed) (e : Entry) : Type 0
 
 module _ (c : Commit) (own : Own) (names : Names) (e : Entry) (reply : Option Reply) where
   not_content : (own_is : Own) (content : Deed) → PutsContent c (put_own own_is) content → does (AddEntries names (e ∷ [])) ≡ content → ⊥
-  not_content (own_bytes bytes place) (does act) is same = let no : AddEntries names (e ∷ []) ≡ PutBytes is.0 bytes = (let x : AddEntries names (e ∷ []) ≡ act = cc in x ∙ is.2) in absurd cc
-  not_content (own_link target) (does act) is same = let no : AddEntries names (e ∷ []) ≡ PutLink is.0 target = (let x : AddEntries names (e ∷ []) ≡ act = cc in x ∙ is.2) in absurd cc
-  not_content own_is (finds path) is same = absurd cc
+  not_content own_is content is same = grind (arith, own_bytes, own_link)
 
   nothing_among : (ds : List Deed) → ds ≡ [] → IsAmong (does (AddEntries names (e ∷ []))) ds → ⊥
   nothing_among ds none among = subst (IsAmong (does (AddEntries names (e ∷ [])))) none among
@@ -195,27 +162,14 @@ module _ (c : Commit) (own : Own) (names : Names) (e : Entry) (reply : Option Re
   entry_of_deed key (finds path) is same = absurd cc
 
   added_by : (key : List ℕ) (more : List Deed) → InsertionAdds (insertion_of c key) more reply → IsAmong (does (AddEntries names (e ∷ []))) more → e ≡ (insertion_of c key).entry
-  added_by key more (inl nothing) among = absurd (nothing_among more nothing.0 among)
-  added_by key more (inr h) among =
-      elim (subst (IsAmong (does (AddEntries names (e ∷ [])))) h.2 among) [
-        | inl same ↦ entry_of_deed key h.0 h.1 same
-        | inr none ↦ absurd none
-      ]
+  added_by key more h among = grind (arith, nothing_among, entry_of_deed)
 
   -- the key of what was added after the content
   key_of : (key : Option (List ℕ)) (more : List Deed) → AddsAfter c key more reply → IsAmong (does (AddEntries names (e ∷ []))) more → (k : List ℕ) × (e ≡ (insertion_of c k).entry)
-  key_of None more after among = absurd (nothing_among more after among)
-  key_of (Some key) more after among = (key, added_by key more after among)
+  key_of key more after among = grind (arith, nothing_among, added_by)
 
   backed : (ds : List Deed) → CommitsAs c (put_own own) ds reply → IsAmong (does (AddEntries names (e ∷ []))) ds → Backed c own ds e
-  backed ds (inl nothing) among = absurd (nothing_among ds nothing.0 among)
-  backed ds (inr h) among =
-      elim (subst (IsAmong (does (AddEntries names (e ∷ [])))) h.3 among) [
-        | inl same ↦ absurd (not_content own h.0 h.2 same)
-        | inr rest ↦
-            let k = key_of c.key h.1 h.4 rest in
-            record { key = k.0; entry_is = k.1; content = h.0; is = h.2; among = subst (IsAmong h.0) (sym h.3) (inl refl) }
-      ]
+  backed ds h among = grind (arith, nothing_among, not_content, key_of)
 
 -- ---- of a history
 

@@ -1,5 +1,5 @@
 -- At each place of a legal history, each bucket is that of a key and holds entries of its own keys.
-use Rattle.std.proofs.Common.{◌≡◌, ℕ, List, [], ◌∷◌, ◌++◌, Option, None, Some, sym, subst}
+use Rattle.std.proofs.Common.{arith, rules, ◌≡◌, ℕ, List, [], ◌∷◌, ◌++◌, Option, None, Some, sym, subst}
 use Rattle.cacache_core.specs.{Paths.{bucket_names}, PathNames.{names_of, names_below}}
 use Rattle.cacache_store.specs.declared.store.step.Step.TheVariants as steps
 use Rattle.cacache_store.specs.Plain.{PlainStep}
@@ -18,15 +18,7 @@ to_keys s n other a = tt
 
 -- it appends an entry's line, and the key is that entry's
 appends_own : (s : Setup) (n : ℕ) (step : PlainStep) → calls.Allowed (call_site s n) (may_export s) (is_outside s) step → AppendsOwn (home s) step
-appends_own s n (steps.Append p line) a = record {
-  entry = a.0;
-  formed = a.2;
-  fits = Fits-no_cause a.0 a.2 a.3;
-  durable = a.1;
-  same = a.5;
-  here = subst (λ q. names_of q ≡ names_below (home s) (bucket_names a.0.key)) (sym a.4) (bucket_below s a.0.key);
-}
-appends_own s n other a = tt
+appends_own s n step a = grind (arith, bucket_below)
 
 pub record Keeps (s : Setup) (t : Tree) : Type 0 where
   pub keyed : BucketsHaveKeys (home s) t
@@ -45,8 +37,7 @@ module _ (s : Setup) (apart : LieApart (home s) s.outside) where
       }
 
   next_keyed : (w : Now) (r : Record) → MayCome s w r → AllHold s w → Keeps s w.tree → Keeps s (now_after s w r).tree
-  next_keyed w (Moved caller luck made reply) may h k = move_keyed w luck made reply may.0 h (of_caller s may.0 _ may.1 (h.calls caller)) may.2 k
-  next_keyed w r may h k = k
+  next_keyed w r may h k = grind (arith, move_keyed, of_caller)
 
   all_keyed : (w : Now) (records : List Record) → Legal s w records → AllHold s w → Keeps s w.tree → Keeps s (replayed s w records).tree
   all_keyed w [] legal h k = k
@@ -71,8 +62,7 @@ abbrev pub KeyedTurn : Setup → Turn → Type 0
 KeyedTurn s turn = Keeps s turn.place
 
 turn_keyed : (h : History) (legal : IsLegal h) (turn : Turn) → TurnAt h turn → KeyedTurn h.setup turn
-turn_keyed h legal turn at =
-    subst (KeyedTurn h.setup) (sym at.turn_is) (kept_at h legal at.before (Moved at.caller at.luck (Some at.made) at.reply ∷ at.later) at.is)
+turn_keyed h legal turn at = search (rules, kept_at)
 
 pub turns_keyed : (h : History) → IsLegal h → (call : Call) (reply : Option Reply) → Reaches h call reply → EachTurn (KeyedTurn h.setup) call.turns
 turns_keyed h legal call reply reaches = each_weaker (TurnAt h) (KeyedTurn h.setup) (turn_keyed h legal) call.turns (reached_turns h call reply reaches)

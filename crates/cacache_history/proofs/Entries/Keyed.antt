@@ -1,5 +1,5 @@
 -- A step makes only buckets of keys.
-use Rattle.std.proofs.{Common.{◌≡◌, ◌-◌, ℕ, Bool, true, false, cond, List, ◌∷◌, ◌++◌, Option, None, Some, Ok, refl, sym, ap, subst, ◌∙◌, bytes_eq, append_assoc}, lemmas.Slice.Eq.{bytes_eq-Decides}}
+use Rattle.std.proofs.{Common.{arith, ◌≡◌, ◌-◌, ℕ, Bool, true, false, cond, List, ◌∷◌, ◌++◌, Option, None, Some, Ok, refl, sym, ap, subst, ◌∙◌, bytes_eq, append_assoc}, lemmas.{Grind.{common_steps}, Slice.Eq.{bytes_eq-Decides}}}
 use Rattle.std.specs.Prelude.{[]}
 use Rattle.cacache_core.specs.{PathNames.{Names, names_of, names_below}, Paths.{bucket_names, content_area, index_area, temp_area}}
 use Rattle.cacache_store.specs.{declared.store.step.Step.TheVariants.{Append}, Plain.{PlainStep}}
@@ -27,9 +27,7 @@ put_keyed home t p new own h q node k is = put_at home p q new (look t q) node (
 pub make_at : (home : Option Names) (above rest : Names) (t : Tree) (here : Option Node) (count : ℕ) (b : Bool) → (path_kind home above ≡ Bucket → ⊥) → BucketsHaveKeys home t
     → ((new : Tree) (count : ℕ) → BucketsHaveKeys home new → BucketsHaveKeys home (make_some new above rest count))
     → BucketsHaveKeys home (make_some (if_missing here (cond b t (put t above Folder)) t) above rest (if_missing here (count - 1) count))
-make_at home above rest t None count true other h more = more t (count - 1) h
-make_at home above rest t None count false other h more = more (put t above Folder) (count - 1) (put_keyed home t above Folder (λ e. absurd (other e)) h)
-make_at home above rest t (Some node) count b other h more = more t count h
+make_at home above rest t here count b other h more = grind (arith, put_keyed)
 
 -- ---- steps
 
@@ -59,10 +57,7 @@ module _ (home : Option Names) (t : Tree) (placed : Placed home t) where
 
 -- no bucket is one name below the cache's folder
 one_below : (b c d : Bool) → cond b Way (cond c Way (cond d Way Stray)) ≡ Bucket → ⊥
-one_below true c d e = cc
-one_below false true d e = cc
-one_below false false true e = cc
-one_below false false false e = cc
+one_below b c d e = grind (arith, common_steps)
 
 -- two names below it
 pub record Deep (home path : Names) : Type 0 where
@@ -72,9 +67,7 @@ pub record Deep (home path : Names) : Type 0 where
   pub is : path ≡ home ++ first ∷ second ∷ rest
 
 below_deep : (path : Names) → kind_below path ≡ Bucket → Deep [] path
-below_deep [] e = absurd cc
-below_deep (x ∷ []) e = absurd (one_below (bytes_eq x content_area) (bytes_eq x index_area) (bytes_eq x temp_area) e)
-below_deep (x ∷ y ∷ rest) e = record { first = x; second = y; rest = rest; is = refl }
+below_deep path e = grind (arith, one_below)
 
 beside_deep : (home path : Names) → kind_beside home path ≡ Bucket → Deep home path
 beside_deep [] path e = below_deep path e

@@ -1,5 +1,5 @@
 -- What a lookup finds goes by the last entry that was written, and answers hold at their places.
-use Rattle.std.proofs.{Common.{◌≡◌, ◌⊎◌, inl, inr, ◌<◌, ◌≤◌, ◌+◌, ◌-◌, ℕ, zero, suc, Bool, true, false, cond, List, [], ◌∷◌, ◌++◌, Option, None, Some, take, drop, fold, bytes_eq, refl, sym, ap, subst, ◌∙◌, append-nil, take-append-drop, arith}, lemmas.{Grind.{fold-append}, List.Elements.{All-nil, All-head, All-tail, All-push, All-same, All-weaker}, Slice.Eq.{bytes_eq-Decides}}}
+use Rattle.std.proofs.{lemmas.{Grind.{common_steps, fold-append}, List.Elements.{All-nil, All-head, All-tail, All-push, All-same, All-weaker}, Slice.Eq.{bytes_eq-Decides}}, Common.{rules, ◌≡◌, ◌⊎◌, inl, inr, ◌<◌, ◌≤◌, ◌+◌, ◌-◌, ℕ, zero, suc, Bool, true, false, cond, List, [], ◌∷◌, ◌++◌, Option, None, Some, take, drop, fold, bytes_eq, refl, sym, ap, subst, ◌∙◌, append-nil, take-append-drop, arith}}
 use Rattle.std.specs.Prelude.{All, slice_get, unwrap_or}
 use Rattle.sha1.specs.Sha1.{sha1}
 use Rattle.cacache_core.specs.{PathNames.{Names}, Paths.{bucket_names_of}}
@@ -123,17 +123,13 @@ module _ (h : History) (legal : IsLegal h) (n : ℕ) (digest : List ℕ) where
   record_changes r is = no_step r is refl
 
   changes : Changes
-  changes = elim (at_place h.records n) [
-    | inl here ↦ record_changes here.0 here.1
-    | inr none ↦ inl (ap (λ rs. bucket_at h rs digest) none)
-  ]
+  changes = search (rules, at_place, record_changes)
 
 -- ---- entries were written
 
 module _ (h : History) where
   pub written_wider : (m n k l : ℕ) → k ≤ m → n ≤ l → (e : Entry) → WrittenIn h m n e → WrittenIn h k l e
-  written_wider m n k l from to e w =
-      record { place = w.place; from = omega (arith, w.from, from); to = omega (arith, w.to, to); caller = w.caller; move = w.move; call = w.call; is = w.is; writes = w.writes }
+  written_wider m n k l from to e w = search rules
 
   pub entries_are_written : IsLegal h → EntriesAreWritten h
   entries_are_written legal zero digest =
@@ -176,10 +172,7 @@ module _ (h : History) (legal : IsLegal h) (key : List ℕ) where
   -- an entry more answers, or the lookup finds what it found
   one_more : (e : Entry) (es more : List Entry) → more ≡ es ++ e ∷ [] → (answer : Option (Option Found)) → answer_to key e ≡ answer
       → (latest key more ≡ latest key es) ⊎ (answer_to key e ≡ Some (latest key more))
-  one_more e es more is None none = inl (ap (latest key) is ∙ fold-append (after_entry key) None es (e ∷ []) ∙ ap (λ a. unwrap_or a (latest key es)) none)
-  one_more e es more is (Some x) some =
-      let now : latest key more ≡ x = ap (latest key) is ∙ fold-append (after_entry key) None es (e ∷ []) ∙ ap (λ a. unwrap_or a (latest key es)) some in
-      inr (some ∙ ap Some (sym now))
+  one_more e es more is answer none = grind (arith, common_steps)
 
   not_dropped : (m n place : ℕ) → m ≤ place → place < n → MovesAre h m n (LeavesBucket key) → IsDropped h legal place (sha1 key) → ⊥
   not_dropped m n place from to leaves d =
@@ -230,25 +223,13 @@ lookups_follow_writes h legal key m n le leaves =
 -- ---- a command that spares the key
 
 pub answers_own : (key : List ℕ) (e : Entry) (x : Option Found) → answer_to key e ≡ Some x → e.key ≡ key
-answers_own key e x a = by (bytes_eq e.key key) refl a
-  where
-    by : (b : Bool) → bytes_eq e.key key ≡ b → cond b (answer_of e e.integrity) None ≡ Some x → e.key ≡ key
-    by true same a = (bytes_eq-Decides e.key key).0 same
-    by false same a = absurd cc
+answers_own key e x a = search rules
 
 pub spared : (key : List ℕ) (c : Command) (site : Site) (e : Entry) (x : Option Found) → SparesKey key c → WritesEntry site c e → answer_to key e ≡ Some x → ⊥
-spared key (commands.Put p) site e x spares w a = spares (w.1 ∙ ap Some (sym (ap (λ (y : Entry). y.key) w.2) ∙ answers_own key e x a))
-spared key (commands.Link l) site e x spares w a = spares (w.2 ∙ ap Some (sym (ap (λ (y : Entry). y.key) w.3) ∙ answers_own key e x a))
-spared key (commands.Insert i) site e x spares w a = spares (sym (ap (λ (y : Entry). y.key) w) ∙ answers_own key e x a)
-spared key (commands.Delete d) site e x spares w a = spares (sym (ap (λ (y : Entry). y.key) w) ∙ answers_own key e x a)
-spared key other site e x spares w a = w
+spared key c site e x spares w a = grind (arith, answers_own)
 
 pub spares_leaves : (key : List ℕ) (c : Command) → SparesKey key c → LeavesBucket key c
-spares_leaves key (commands.Put p) s = tt
-spares_leaves key (commands.Link l) s = tt
-spares_leaves key (commands.Insert i) s = tt
-spares_leaves key (commands.Delete d) s = tt
-spares_leaves key other s = s
+spares_leaves key c s = grind (arith, common_steps)
 
 pub lookups_stay : (h : History) → IsLegal h → LookupsStay h
 lookups_stay h legal key m n le spares =

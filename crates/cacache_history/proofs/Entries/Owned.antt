@@ -1,5 +1,5 @@
 -- The entries of a bucket are those of its own keys.
-use Rattle.std.proofs.{Common.{◌≡◌, ℕ, Bool, true, false, cond, nat_le, List, ◌∷◌, ◌++◌, Option, None, Some, option_map, fold, filter_map, map, Ok, Err, bytes_eq, length, take, refl, sym, ap, subst, ◌∙◌}, lemmas.{Bool.{leb-true, leb-false}, List.{append_cancel_left, Elements.{All-nil, All-cons, All-head, All-tail, All-append}}, Slice.Eq.{bytes_eq-Decides}}}
+use Rattle.std.proofs.{Common.{arith, rules, ◌≡◌, ℕ, Bool, true, false, cond, nat_le, List, ◌∷◌, ◌++◌, Option, None, Some, option_map, fold, filter_map, map, Ok, Err, bytes_eq, length, take, refl, sym, ap, subst, ◌∙◌}, lemmas.{Grind.{common_steps}, Bool.{leb-true, leb-false}, List.{append_cancel_left, Elements.{All-nil, All-cons, All-head, All-tail, All-append}}, Slice.Eq.{bytes_eq-Decides}}}
 use Rattle.std.specs.{Prelude.{All, IfSome, unwrap_or, []}, List.{cons_option, list_any}}
 use Rattle.sha1.specs.Sha1.{sha1}
 use Rattle.cacache_core.specs.{declared.{errors.Fault.{Fault}, integrity.digest.Hash.{Hash}}, PathNames.{Names, names_of, names_below}, Paths.{joined, bucket_names, bucket_names_of}}
@@ -29,12 +29,10 @@ Adds P home digest (AddEntries path new) = is_path_of home (bucket_names_of dige
 Adds P home digest act = Unit {0}
 
 added_own : (P : Entry → Type 0) (b : Bool) (o : Option (List Entry)) (new : List Entry) → (b ≡ true → All P new) → All P (list_of o) → All P (list_of (cond b (Some (list_of o ++ new)) o))
-added_own P true o new n h = All-append P (list_of o) new h (n refl)
-added_own P false o new n h = h
+added_own P b o new n h = grind (arith, common_steps)
 
 dropped_own : (P : Entry → Type 0) (b : Bool) (o : Option (List Entry)) → All P (list_of o) → All P (list_of (cond b None o))
-dropped_own P true o h = All-nil P
-dropped_own P false o h = h
+dropped_own P b o h = grind (arith, common_steps)
 
 pub change_all : (P : Entry → Type 0) (home : Option Names) (v : Value) (act : Act) (digest : List ℕ) → Adds P home digest act → All P (list_of (v.buckets digest))
     → All P (list_of ((change home act v).buckets digest))
@@ -66,8 +64,7 @@ one_bucket cache (Some folder) a key names e is =
     (paths_differ.buckets cache (sha1 a) (sha1 key) (keys_have_digests a) (keys_have_digests key)).0 (ap (joined cache) (sym same))
 
 pub left_own : (P : Entry → Type 0) (durable : Bool) (e : Entry) (count : ℕ) (b : Bool) → IsEntry e → IsWritable e → P e → nat_le (length (line_of e)) count ≡ b → All P (entries_of (take count (closed_line durable e)))
-left_own P durable e count true formed fits own is = subst (All P) (sym (whole_closed durable e count formed fits (leb-true _ _ is))) (All-cons P e [] own (All-nil P))
-left_own P durable e count false formed fits own is = subst (All P) (sym (torn_closed durable e count formed fits (leb-false _ _ is))) (All-nil P)
+left_own P durable e count b formed fits own is = grind (arith, whole_closed, torn_closed)
 
 own_act : (home : Option Names) (key : List ℕ) (act : Act) (step : PlainStep) → MayAct act step → AppendsOwn home step → Adds (OfBucket key) home (sha1 key) act
 own_act home key (AddEntries names new) (steps.Append p bytes) is line = λ here.
@@ -97,9 +94,7 @@ abbrev HasKey : List ℕ → Option Found → Type 0
 HasKey key found = IfSome found (λ f. f.key ≡ key)
 
 answered_key : (key : List ℕ) (e : Entry) (found : Option Found) (o : Option (Option (List Hash))) → e.key ≡ key → HasKey key found → HasKey key (unwrap_or (option_map (option_map (found_of e)) o) found)
-answered_key key e found None is h = h
-answered_key key e found (Some None) is h = tt
-answered_key key e found (Some (Some i)) is h = is
+answered_key key e found o is h = grind (arith, common_steps)
 
 entry_key : (key : List ℕ) (e : Entry) (found : Option Found) (b : Bool) → bytes_eq e.key key ≡ b → HasKey key found → HasKey key (unwrap_or (cond b (answer_of e e.integrity) None) found)
 entry_key key e found true is h = answered_key key e found (answer_of_integrity e.integrity) ((bytes_eq-Decides e.key key).0 is) h
@@ -127,12 +122,7 @@ all_keys key (e ∷ es) all = All-cons (λ k. sha1 k ≡ sha1 key) e.key (map (�
 module _ (s : Setup) (turn : Turn) (key : List ℕ) where
   key_found : (k : List ℕ) → sha1 k ≡ sha1 key → (o : Option Found) → latest k (entries_at s (sha1 key) turn) ≡ o → (rest : List Item) → All (IsFound s turn) rest
       → All (IsFound s turn) (cons_option (option_map Ok o) rest)
-  key_found k own None is rest h = h
-  key_found k own (Some f) is rest h =
-      let same : f.key ≡ k = latest_key k (entries_at s (sha1 key) turn) f is in
-      let found : latest f.key (entries_at s (sha1 f.key) turn) ≡ Some f
-      = ap (λ j. latest j (entries_at s (sha1 j) turn)) same ∙ ap (λ d. latest k (entries_at s d turn)) own ∙ is in
-      All-cons (IsFound s turn) (Ok f) rest found h
+  key_found k own o is rest h = grind (arith, latest_key)
 
   keys_found : (ks : List (List ℕ)) → All (λ k. sha1 k ≡ sha1 key) ks → All (IsFound s turn) (filter_map (λ k. option_map Ok (latest k (entries_at s (sha1 key) turn))) ks)
   keys_found [] all = All-nil (IsFound s turn)
@@ -141,16 +131,10 @@ module _ (s : Setup) (turn : Turn) (key : List ℕ) where
       (filter_map (λ j. option_map Ok (latest j (entries_at s (sha1 key) turn))) ks) (keys_found ks (All-tail (λ j. sha1 j ≡ sha1 key) k ks all))
 
   items_found : All (OfBucket key) (entries_at s (sha1 key) turn) → All (IsFound s turn) (items_of (entries_at s (sha1 key) turn))
-  items_found all =
-      keys_found (once (map (λ e. e.key) (entries_at s (sha1 key) turn)))
-      (once_all (λ k. sha1 k ≡ sha1 key) (map (λ e. e.key) (entries_at s (sha1 key) turn)) (all_keys key (entries_at s (sha1 key) turn) all))
+  items_found all = search (rules, keys_found, once_all, all_keys)
 
   refused_found : (refusal : Refusal) → All (IsFound s turn) (by_entries (Err refusal))
-  refused_found (refusals.Fault fault) = All-cons (IsFound s turn) (failed fault) [] tt (All-nil (IsFound s turn))
-  refused_found refusals.Memory = All-nil (IsFound s turn)
+  refused_found refusal = grind (arith, common_steps)
 
   pub bucket_found : (a : PlainAnswer) → All (OfBucket key) (entries_at s (sha1 key) turn) → All (IsFound s turn) (by_entries (shown_result a (Ok (entries_at s (sha1 key) turn))))
-  bucket_found (answers.Failed faults.NotFound) all = items_found all
-  bucket_found (answers.Failed fault) all = refused_found (refusals.Fault fault)
-  bucket_found (answers.NoMemory step) all = refused_found refusals.Memory
-  bucket_found other all = items_found all
+  bucket_found a all = grind (arith, items_found, refused_found)

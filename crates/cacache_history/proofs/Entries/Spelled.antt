@@ -1,5 +1,5 @@
 -- What a lookup finds among well-formed entries has an integrity.
-use Rattle.std.proofs.{Common.{◌≡◌, ◌⊎◌, inl, inr, ◌≤◌, ◌<◌, ◌+◌, ◌/◌, ◌%◌, ℕ, zero, suc, Bool, true, false, cond, List, [], ◌∷◌, Option, None, Some, option_map, fold, Result, Ok, Err, bytes_eq, refl, subst, arith}, lemmas.{Bool.{ltb-true, and_parts}, List.Elements.{All-head, All-tail}}}
+use Rattle.std.proofs.{lemmas.{Grind.{common_steps}, Bool.{ltb-true, and_parts}, List.Elements.{All-head, All-tail}}, Common.{rules, ◌≡◌, ◌⊎◌, inl, inr, ◌≤◌, ◌<◌, ◌+◌, ◌/◌, ◌%◌, ℕ, zero, suc, Bool, true, false, cond, List, [], ◌∷◌, Option, None, Some, option_map, fold, Result, Ok, Err, bytes_eq, refl, subst, arith}}
 use Rattle.std.specs.Prelude.{All, IsUtf8, nat_lt, IfSome, unwrap_or}
 use Rattle.base64.specs.GeneralPurpose.{IsBytes}
 use lib.Utf8.{scalar, scalars, encode, encodes, scalar_cases}
@@ -10,8 +10,7 @@ use Rattle.cacache_entry.specs.{Entry.{Entry}, FittingEntries.{IsUtf8IfAny, IsEn
 -- ---- UTF-8 is bytes
 
 bytes_cons : (b : ℕ) (bs : List ℕ) → b < 256 → IsBytes bs → IsBytes (b ∷ bs)
-bytes_cons b bs h rest zero = h
-bytes_cons b bs h rest (suc i) = rest i
+bytes_cons b bs h rest h2 = grind (arith, common_steps)
 
 no_bytes : IsBytes []
 no_bytes i = omega arith
@@ -37,14 +36,7 @@ wide_char c range =
 
 char_bytes : (c : ℕ) → scalar c ≡ true → IsBytes (encode c)
 unfolding encode
-char_bytes c is = one (nat_lt c 128) (nat_lt c 2048) (nat_lt c 65536) refl refl refl
-  where
-    one : (x y z : Bool) → nat_lt c 128 ≡ x → nat_lt c 2048 ≡ y → nat_lt c 65536 ≡ z
-        → IsBytes (cond x (c ∷ []) (cond y ((192 + c / 64) ∷ (128 + c % 64) ∷ []) (cond z ((224 + c / 4096) ∷ (128 + (c / 64) % 64) ∷ (128 + c % 64) ∷ []) ((240 + c / 262144) ∷ (128 + (c / 4096) % 64) ∷ (128 + (c / 64) % 64) ∷ (128 + c % 64) ∷ []))))
-    one true y z e f g = one_byte c (omega (arith, ltb-true c 128 e))
-    one false true z e f g = two_bytes (192 + c / 64) (128 + c % 64) (omega (arith, ltb-true c 2048 f)) (next_byte c)
-    one false false true e f g = three_bytes (224 + c / 4096) (128 + (c / 64) % 64) (128 + c % 64) (omega (arith, ltb-true c 65536 g)) (next_byte (c / 64)) (next_byte c)
-    one false false false e f g = wide_char c (scalar_cases c is)
+char_bytes c is = search (rules, one_byte, two_bytes, next_byte, three_bytes, wide_char)
 
 chars_bytes : (cs : List ℕ) → scalars cs ≡ true → IsBytes (encodes cs)
 chars_bytes [] is = no_bytes
@@ -63,8 +55,7 @@ HasIntegrity found = IfSome found (λ f. IsIntegrity f.integrity)
 
 read_has : (e : Entry) (text : List ℕ) (found : Option Found) (r : Result (List Hash) IntegrityFault) → IsBytes text → read_integrity text ≡ r → HasIntegrity found
     → HasIntegrity (unwrap_or (option_map (option_map (found_of e)) (answer_read r)) found)
-read_has e text found (Ok i) bytes is h = read_is_integrity text i bytes is
-read_has e text found (Err fault) bytes is h = h
+read_has e text found r bytes is h = grind (arith, read_is_integrity)
 
 answer_has : (e : Entry) (found : Option Found) (integrity : Option (List ℕ)) → IsUtf8IfAny integrity → HasIntegrity found → HasIntegrity (unwrap_or (answer_of e integrity) found)
 answer_has e found None utf8 h = tt

@@ -1,5 +1,5 @@
 -- What a move adds to a bucket is what its call's command writes; and which buckets it removes.
-use Rattle.std.proofs.{Common.{◌≡◌, ◌⊎◌, inl, inr, ℕ, true, false, List, [], ◌∷◌, ◌++◌, Option, None, Some, Ok, refl, sym, ap, subst, ◌∙◌, arith}, lemmas.List.{append_cancel_left, Elements.{All-head}}}
+use Rattle.std.proofs.{lemmas.{Grind.{common_steps}, List.{append_cancel_left, Elements.{All-head}}}, Common.{◌≡◌, ◌⊎◌, inl, inr, ℕ, true, false, List, [], ◌∷◌, ◌++◌, Option, None, Some, Ok, refl, sym, ap, subst, ◌∙◌, arith}}
 use Rattle.sha1.specs.Sha1.{sha1}
 use Rattle.cacache_core.specs.{declared.integrity.digest.Hash.{Hash}, Integrity.{IsHash, IsIntegrity}, PathNames.{Names, names_of, names_below}, Paths.{joined, content_names, bucket_names_of}}
 use Rattle.cacache_core.proofs.{PathLemmas.{keys_have_digests}, PathTexts.{paths_differ}}
@@ -38,27 +38,14 @@ PutsOrAdds c put act =
     ⊎ ((key : List ℕ) × (names : Names) × (c.key ≡ Some key) × (act ≡ AddEntries names ((insertion_of c key).entry ∷ [])))
 
 inserted : (i : Insertion) (ds : List Deed) (reply : Option Reply) (act : Act) → InsertionAdds i ds reply → IsAmong (does act) ds → (names : Names) × (act ≡ AddEntries names (i.entry ∷ []))
-inserted i ds reply act (inl nothing) among = none_among (does act) ds nothing.0 among
-inserted i ds reply act (inr h) among = by h.0 h.1 (subst (IsAmong (does act)) h.2 among)
-  where
-    by : (d : Deed) → IsAdded i d → IsAmong (does act) (d ∷ []) → (names : Names) × (act ≡ AddEntries names (i.entry ∷ []))
-    by (does other) is (inl e) = let same : act ≡ other = cc in (is.0, same ∙ is.2)
-    by (does other) is (inr none) = absurd none
-    by (finds path) is among = absurd is
+inserted i ds reply act h among = grind (arith, none_among)
 
 followed : (c : Commit) (o : Option (List ℕ)) (ds : List Deed) (reply : Option Reply) (act : Act) → AddsAfter c o ds reply → IsAmong (does act) ds
     → (key : List ℕ) × (names : Names) × (o ≡ Some key) × (act ≡ AddEntries names ((insertion_of c key).entry ∷ []))
-followed c None ds reply act after among = none_among (does act) ds after among
-followed c (Some key) ds reply act after among = let it = inserted (insertion_of c key) ds reply act after among in (key, it.0, refl, it.1)
+followed c o ds reply act after among = grind (arith, none_among, inserted)
 
 committed : (c : Commit) (put : Names → Act) (ds : List Deed) (reply : Option Reply) (act : Act) → CommitsAs c put ds reply → IsAmong (does act) ds → PutsOrAdds c put act
-committed c put ds reply act (inl nothing) among = none_among (does act) ds nothing.0 among
-committed c put ds reply act (inr h) among = by h.0 h.2 (subst (IsAmong (does act)) h.3 among)
-  where
-    by : (d : Deed) → PutsContent c put d → IsAmong (does act) (d ∷ h.1) → PutsOrAdds c put act
-    by (does other) is (inl e) = let same : act ≡ other = cc in inl (is.0, same ∙ is.2)
-    by (finds path) is (inl e) = absurd cc
-    by d is (inr more) = inr (followed c c.key h.1 reply act h.4 more)
+committed c put ds reply act h among = grind (arith, none_among, followed)
 
 -- a link's commit is one of bytes that it read
 linked : {X : Type 0} (site : Site) (l : Link) (turns : List Turn) (reply : Option Reply) (act : Act) → LinksAs (link_target site l) turns reply → IsAmong (does act) (deeds turns)
@@ -82,8 +69,7 @@ module _ (site : Site) (command : Command) (names : Names) (e : Entry) (es : Lis
 
   own_commit : (c : Commit) (put : Names → Act) → ((at : Names) → AddEntries names (e ∷ es) ≡ put at → ⊥) → ((key : List ℕ) → c.key ≡ Some key → WritesEntry site command (insertion_of c key).entry)
       → PutsOrAdds c put (AddEntries names (e ∷ es)) → AreOwn site command e es
-  own_commit c put not writes (inl puts) = absurd (not puts.0 puts.1)
-  own_commit c put not writes (inr adds) = own_entry adds.1 (insertion_of c adds.0).entry (writes adds.0 adds.2) adds.3
+  own_commit c put not writes h = grind (arith, own_entry)
 
 no_drops : (paths : List (List ℕ)) (ds : List Deed) (names : Names) (e : Entry) (es : List Entry) → DropsAmong paths ds → IsAmong (does (AddEntries names (e ∷ es))) ds → ⊥
 no_drops [] ds names e es drops among = none_among (does (AddEntries names (e ∷ es))) ds drops among
@@ -173,8 +159,7 @@ module _ (s : Setup) (key : List ℕ) where
 
 -- a commit removes nothing
 puts_no_drop : {X : Type 0} (c : Commit) (put : Names → Act) (names : Names) → ((at : Names) → Drop names ≡ put at → ⊥) → PutsOrAdds c put (Drop names) → X
-puts_no_drop c put names not (inl puts) = absurd (not puts.0 puts.1)
-puts_no_drop c put names not (inr adds) = absurd cc
+puts_no_drop c put names not h = grind (arith, common_steps)
 
 -- what the first turn of a call found has an integrity
 found_formed : (s : Setup) (key : List ℕ) (turns : List Turn) (found : Found) → TurnsHold s turns → FoundFirst s.cache key turns found → IsIntegrity found.integrity

@@ -1,5 +1,5 @@
 -- What holds at each place of a legal history.
-use Rattle.std.proofs.Common.{◌≡◌, ◌==◌, ℕ, Bool, true, false, cond, List, [], ◌∷◌, ◌++◌, Option, None, Some, option_map, refl, sym, ap, subst}
+use Rattle.std.proofs.{Common.{arith, rules, ◌≡◌, ◌==◌, ℕ, Bool, true, false, cond, List, [], ◌∷◌, ◌++◌, Option, None, Some, option_map, refl, sym, ap, subst}, lemmas.Grind.{common_steps}}
 use Rattle.cacache_store.specs.Fits.{Fits}
 use Rattle.cacache_disk.{specs.{declared.luck.Luck.{Luck}, Tree.{Tree}, Apply.{apply}, Rooted.{Rooted}}, proofs.KeptFolders.{steps_keep_rooted}}
 use Rattle.cacache_calls.specs.{declared.{command.Command.{Command}, reply.Reply.{Reply}}, Table.{after, opening}, Runs.{Goes}, Sound.{Sound, MayBegin}}
@@ -44,15 +44,7 @@ pub record AllHold (s : Setup) (w : Now) : Type 0 where
 -- ---- a call
 
 pub begins_hold : (s : Setup) (n : ℕ) (command : Command) → MayBegin (call_site s n) (may_export s) (is_outside s) command → NamesIntegrity command → CallHolds s (new_call s n command)
-begins_hold s n command may named = record {
-  may = may;
-  named = named;
-  goes = refl;
-  sound = begins_sound (call_site s n) (may_export s) (is_outside s) command may;
-  turns = tt;
-  carries = opening_carries (call_site s n) command;
-  makes = tt;
-}
+begins_hold s n command may named = search (rules, begins_sound, opening_carries)
 
 made_more : (turns : List Turn) (turn : Turn) → made_in (turns ++ turn ∷ []) ≡ made_in turns ++ (turn.move.step, turn.move.answer) ∷ []
 made_more [] turn = refl
@@ -79,13 +71,11 @@ module _ (s : Setup) (w : Now) (h : AllHold s w) (luck : Luck) where
 
 -- what holds of both calls holds of the one that a test picks
 pub set_at : (P : Option Call → Type 0) (b : Bool) (x y : Option Call) → P x → P y → P (cond b x y)
-set_at P true x y h k = h
-set_at P false x y h k = k
+set_at P b x y h k = grind (arith, common_steps)
 
 -- and it holds once the call is over, if it holds of none
 pub ended_at : (P : Option Call → Type 0) → P None → (reply : Option Reply) (call : Option Call) → P call → P (unless_over reply call)
-ended_at P none None call h = h
-ended_at P none (Some reply) call h = none
+ended_at P none reply call h = grind (arith, common_steps)
 
 -- what holds of a caller's call holds of this one, if it is that call
 pub of_caller : (s : Setup) (call : Call) (o : Option Call) → o ≡ Some call → CallAt s o → CallHolds s call
@@ -125,21 +115,9 @@ module _ (s : Setup) (apart : LieApart (home s) s.outside) where
       }
 
   pub next_holds : (w : Now) (r : Record) → MayCome s w r → AllHold s w → AllHold s (now_after s w r)
-  next_holds w (Began caller command) may h = record {
-    placed = h.placed;
-    rooted = h.rooted;
-    formed = h.formed;
-    right = h.right;
-    calls = λ k. set_at (CallAt s) (k == caller) (Some (new_call s w.begun command)) (w.calls k) (begins_hold s w.begun command may.2 may.3) (h.calls k);
-  }
+  next_holds w (Began caller command) may h = search (rules, set_at, begins_hold)
   next_holds w (Moved caller luck made reply) may h = move_holds w caller luck made reply may.0 may.1 may.2 h
-  next_holds w (Stopped caller) may h = record {
-    placed = h.placed;
-    rooted = h.rooted;
-    formed = h.formed;
-    right = h.right;
-    calls = λ k. set_at (CallAt s) (k == caller) None (w.calls k) tt (h.calls k);
-  }
+  next_holds w (Stopped caller) may h = search (rules, set_at)
 
   pub all_hold : (w : Now) (records : List Record) → Legal s w records → AllHold s w → AllHold s (replayed s w records)
   all_hold w [] legal h = h

@@ -1,5 +1,5 @@
 -- What may come in a legal history, case by case, and one history.
-use Rattle.std.proofs.Common.{◌≡◌, ◌⊎◌, inl, inr, ℕ, List, [], ◌∷◌, ◌++◌, Option, None, Some, option_map, Result, Ok, Err, refl, sym, ap, subst, ◌∙◌, codes, arith}
+use Rattle.std.proofs.{lemmas.Grind.{common_steps}, Common.{rules, ◌≡◌, ◌⊎◌, inl, inr, ℕ, List, [], ◌∷◌, ◌++◌, Option, None, Some, option_map, Result, Ok, Err, refl, sym, ap, subst, ◌∙◌, codes, arith}}
 use Rattle.sha1.specs.Sha1.{sha1}
 use Rattle.cacache_core.specs.declared.errors.{Fault.{Fault}, Error.TheVariants.{OutOfMemory}}
 use Rattle.cacache_core.specs.declared.errors.Fault.TheVariants as faults
@@ -31,19 +31,15 @@ not_over : (s : State) (own : Reply) → s ≡ over own → Ends s None → ⊥
 not_over s own is e = let none : None ≡ Some e.0 = sym (ap wants is) ∙ e.1 in absurd cc
 
 own_reply : (s : State) (own r : Reply) → s ≡ over own → Ends s (Some r) → (plain_reply r ≡ own) ⊎ (r ≡ Refused OutOfMemory)
-own_reply s own r is (inl e) = inl (let same : over (plain_reply r) ≡ over own = sym e ∙ is in cc)
-own_reply s own r is (inr e) = inr e
+own_reply s own r is h = grind (arith, common_steps)
 
 too_early : (s : State) (more : PlainStep) (r : Reply) → wants s ≡ Some more → Ends s (Some r) → r ≡ Refused OutOfMemory
-too_early s more r is (inl e) = let none : None ≡ Some more = sym (ap wants e) ∙ is in absurd cc
-too_early s more r is (inr e) = e
+too_early s more r is h = grind (arith, common_steps)
 
 -- ---- lookups
 
 only_turn : (turns : List Turn) (turn one : Turn) → turns ++ turn ∷ [] ≡ one ∷ [] → one ≡ turn
-only_turn [] turn one e = cc
-only_turn (t ∷ []) turn one e = absurd cc
-only_turn (t ∷ u ∷ turns) turn one e = absurd cc
+only_turn turns turn one e = grind (arith, common_steps)
 
 found_at : (s : Setup) (key : List ℕ) (turns : List Turn) (turn : Turn) (r : Reply) → FindsHeld s key (turns ++ turn ∷ []) r → r ≡ find_reply key (bucket_read s (sha1 key) turn)
 found_at s key turns turn r h = h.3 ∙ ap (λ x. find_reply key (bucket_read s (sha1 key) x)) (only_turn turns turn h.0 h.1)
@@ -57,15 +53,7 @@ module _ (h : History) (legal : IsLegal h) (before : List Record) (caller : ℕ)
       subst (λ c. MayMove (now_at h before).tree c.state luck made reply) (same_call (call_at h before caller) may.0 call may.1 is) may.2
 
   reaches : (luck : Luck) (made : Made) (r : Reply) → StepCases h before caller luck made (Some r) → Reaches h (call_after (now_at h before).tree luck (Some made) call) (Some r)
-  reaches luck made r comes = record {
-    before = before;
-    later = comes.0;
-    caller = caller;
-    luck = luck;
-    made = Some made;
-    is = comes.1;
-    stands = ap (option_map (call_after (now_at h before).tree luck (Some made))) is;
-  }
+  reaches luck made r comes = search rules
 
   looks_up : (luck : Luck) (made : Made) (key : List ℕ) (r : Reply) → call.command ≡ commands.Find key → StepCases h before caller luck made (Some r)
       → (r ≡ Refused OutOfMemory) ⊎ (plain_reply r ≡ find_reply key (bucket_read h.setup (sha1 key) (turn_of (now_at h before).tree luck made)))
@@ -106,17 +94,12 @@ begin_cases h legal before caller = record {
 }
 
 pub cases_hold : CasesHold
-cases_hold h legal = record {
-  busy = busy_cases h legal;
-  idle = idle_cases h legal;
-  begins = begin_cases h legal;
-}
+cases_hold h legal = search (rules, busy_cases, idle_cases, begin_cases)
 
 -- ---- one history
 
 fits_read : (path : List ℕ) (t : Tree) (r : Result (List ℕ) Fault) → Fits (steps.ReadAll path) (unless r t (λ bytes. (answers.Bytes bytes, t))).0
-fits_read path t (Ok bytes) = tt
-fits_read path t (Err fault) = tt
+fits_read path t r = grind (arith, common_steps)
 
 made_fits : (cache key : List ℕ) (luck : Luck) → Fits (steps.ReadAll (bucket_path cache key)) (lookup_made cache key luck).1
 made_fits cache key luck =
@@ -129,8 +112,7 @@ look cache key = record { cache = cache; key = key; aim = aims.Report }
 -- a lookup ends with what the answer gives, without a message
 looked : (cache key : List ℕ) (a : Result (List ℕ) Refusal) → go_on a (no_bucket (look cache key)) (after_bucket (look cache key)) ≡ over (plain_reply (find_reply key (entries_shown a)))
 unfolding found_in
-looked cache key (Err (refusals.Fault faults.NotFound)) = refl
-looked cache key a = refl
+looked cache key a = grind (arith, common_steps)
 
 lookup_legal : (cache key : List ℕ) (luck : Luck) → IsLegal (lookup_alone cache key luck (find_reply key (bucket_shown (lookup_made cache key luck).1)))
 lookup_legal cache key luck =
@@ -146,11 +128,7 @@ lookup_legal cache key luck =
 
 -- if nothing is held, no entry is found
 not_found : (key : List ℕ) (entries : List Entry) (found : Found) (a : PlainAnswer) → entries ≡ [] → LookedUp (Some found) ≡ find_reply key (shown_result a (Ok entries)) → ⊥
-not_found key entries found a none e = by a (e ∙ ap (λ es. find_reply key (shown_result a (Ok es))) none)
-  where
-    by : (a : PlainAnswer) → LookedUp (Some found) ≡ find_reply key (shown_result a (Ok [])) → ⊥
-    by (answers.Failed faults.NotFound) e = absurd cc
-    by a e = absurd cc
+not_found key entries found a none e = search rules
 
 lookup_finds_none : (cache key : List ℕ) (luck : Luck) (found : Found) → IsLegal (lookup_alone cache key luck (LookedUp (Some found))) → ⊥
 lookup_finds_none cache key luck found legal =

@@ -1,5 +1,5 @@
 -- Answers of lookups and reads hold at places since their calls began, and so do the entries of puts.
-use Rattle.std.proofs.{Common.{◌≡◌, ◌⊎◌, inl, inr, ◌≤◌, ℕ, suc, true, cond, List, [], ◌∷◌, ◌++◌, Option, None, Some, Result, Ok, Err, take, drop, bytes_eq, refl, sym, ap, subst, ◌∙◌, arith}, lemmas.{Grind.{fold-append}, Slice.Eq.{bytes_eq-Decides}}}
+use Rattle.std.proofs.{lemmas.{Grind.{common_steps, fold-append}, Slice.Eq.{bytes_eq-Decides}}, Common.{rules, ◌≡◌, ◌⊎◌, inl, inr, ◌≤◌, ℕ, suc, true, cond, List, [], ◌∷◌, ◌++◌, Option, None, Some, Result, Ok, Err, take, drop, bytes_eq, refl, sym, ap, subst, ◌∙◌, arith}}
 use Rattle.std.specs.Prelude.{slice_get, unwrap_or}
 use Rattle.sha1.specs.Sha1.{sha1}
 use Rattle.cacache_core.specs.declared.errors.Fault.TheVariants as faults
@@ -32,37 +32,20 @@ reaches_in h m n caller call reply c = record {
 -- ---- what a turn shows
 
 shown_is : {X : Type 0} (a : PlainAnswer) (r : Result X Refusal) → (shown_result a r ≡ r) ⊎ ((refusal : Refusal) × (shown_result a r ≡ Err refusal))
-shown_is (answers.Failed faults.NotFound) r = inl refl
-shown_is (answers.Failed fault) r = inr (refusals.Fault fault, refl)
-shown_is (answers.NoMemory step) r = inr (refusals.Memory, refl)
-shown_is a r = inl refl
+shown_is a r = grind (arith, common_steps)
 
 looked : (s : Setup) (key : List ℕ) (turn : Turn) (x : Option Found) → lookup key (bucket_read s (sha1 key) turn) ≡ Ok x → latest key (entries_at s (sha1 key) turn) ≡ x
-looked s key turn x e =
-    elim (shown_is turn.move.answer (Ok (entries_at s (sha1 key) turn))) [
-      | inl is ↦ let same : lookup key (Ok (entries_at s (sha1 key) turn)) ≡ Ok x = ap (lookup key) (sym is) ∙ e in cc
-      | inr is ↦ let same : lookup key (Err is.0) ≡ Ok x = ap (lookup key) (sym is.1) ∙ e in absurd cc
-    ]
+looked s key turn x e = search (rules, shown_is)
 
 not_refused : {X : Type 0} (key : List ℕ) (x : Option Found) (r : Refusal) → LookedUp x ≡ find_reply key (Err r) → X
-not_refused key x (refusals.Fault fault) e = absurd cc
-not_refused key x refusals.Memory e = absurd cc
+not_refused key x r e = grind (arith, common_steps)
 
 answered : (s : Setup) (key : List ℕ) (turn : Turn) (x : Option Found) → LookedUp x ≡ find_reply key (bucket_read s (sha1 key) turn) → latest key (entries_at s (sha1 key) turn) ≡ x
-answered s key turn x e =
-    elim (shown_is turn.move.answer (Ok (entries_at s (sha1 key) turn))) [
-      | inl is ↦ let same : LookedUp x ≡ find_reply key (Ok (entries_at s (sha1 key) turn)) = e ∙ ap (find_reply key) is in cc
-      | inr is ↦ not_refused key x is.0 (e ∙ ap (find_reply key) is.1)
-    ]
+answered s key turn x e = search (rules, shown_is, not_refused)
 
 -- at the turn's place
 placed : (h : History) (m n caller : ℕ) (key : List ℕ) (turn : Turn) (x : Option Found) → TurnIn h m n caller turn → latest key (entries_at h.setup (sha1 key) turn) ≡ x → IsFoundIn h m n key x
-placed h m n caller key turn x t shows = (
-  t.place,
-  t.from,
-  omega (arith, t.to),
-  ap (λ (u : Turn). latest key (list_of ((value_of_tree (home h.setup) u.place).buckets (sha1 key)))) (sym t.turn_is) ∙ shows,
-)
+placed h m n caller key turn x t shows = search rules
 
 module _ (h : History) (legal : IsLegal h) (m n caller : ℕ) (call : Call) where
   abbrev Own : List Turn → Type 0
@@ -105,19 +88,7 @@ did_by P act (turn ∷ turns) each among =
 -- a commit with a key that answers added its entry
 adds_entry : (c : Commit) (put : Names → Act) (key : List ℕ) (i : List Hash) (ds : List Deed) → c.key ≡ Some key → CommitsAs c put ds (Some (Stored i))
     → (names : Names) × (names_of (bucket_path c.cache key) ≡ Ok names) × IsAmong (does (AddEntries names ((insertion_of c key).entry ∷ []))) ds
-adds_entry c put key i ds is (inl nothing) = absurd nothing.1
-adds_entry c put key i ds is (inr h) = by (subst (λ o. AddsAfter c o h.1 (Some (Stored i))) is h.4)
-  where
-    one : (d : Deed) → IsAdded (insertion_of c key) d → h.1 ≡ d ∷ []
-        → (names : Names) × (names_of (bucket_path c.cache key) ≡ Ok names) × IsAmong (does (AddEntries names ((insertion_of c key).entry ∷ []))) ds
-    one (does act) added only =
-        (added.0, added.1, subst (IsAmong (does (AddEntries added.0 ((insertion_of c key).entry ∷ [])))) (sym (h.3 ∙ ap (λ l. h.0 ∷ l) only)) (inr (inl (ap does (sym added.2)))))
-    one (finds path) added only = absurd added
-
-    by : AddsAfter c (Some key) h.1 (Some (Stored i))
-        → (names : Names) × (names_of (bucket_path c.cache key) ≡ Ok names) × IsAmong (does (AddEntries names ((insertion_of c key).entry ∷ []))) ds
-    by (inl nothing) = absurd nothing.1
-    by (inr adds) = one adds.0 adds.1 adds.2
+adds_entry c put key i ds is h = grind (arith, common_steps)
 
 here : (folder : Option Names) (below names : Names) → names_below folder below ≡ Ok names → is_path_of folder below names ≡ true
 here None below names e = absurd cc
@@ -195,12 +166,10 @@ put_leaves key (p ∷ ps) c (inr more) = put_leaves key ps c more
 
 module _ (h : History) (legal : IsLegal h) (key : List ℕ) (ps : List Put) where
   leaves : (c : Command) → SparesKey key c ⊎ IsOneOfPuts ps c → LeavesBucket key c
-  leaves c (inl spares) = spares_leaves key c spares
-  leaves c (inr is) = put_leaves key ps c is
+  leaves c h = grind (arith, spares_leaves, put_leaves)
 
   written_put : (e : Entry) (x : Option Found) (site : Site) (c : Command) → site.cache ≡ h.setup.cache → SparesKey key c ⊎ IsOneOfPuts ps c → WritesEntry site c e → answer_to key e ≡ Some x → FoundOfPuts h.setup.cache key ps x
-  written_put e x site c at (inl spares) w a = absurd (spared key c site e x spares w a)
-  written_put e x site c at (inr is) w a = put_answers h.setup.cache key ps site c e x at is w a
+  written_put e x site c at h w a = grind (arith, spared, put_answers)
 
   lookups_follow_puts : (m n : ℕ) → m ≤ n → MovesAre h m n (λ c. SparesKey key c ⊎ IsOneOfPuts ps c) → (lookup_at h n key ≡ lookup_at h m key) ⊎ FoundOfPuts h.setup.cache key ps (lookup_at h n key)
   lookups_follow_puts m n le moves =

@@ -1,5 +1,5 @@
 -- Places of a history: each move is of a call, and the turns of a call that began after a place are moves after it.
-use Rattle.std.proofs.Common.{◌≡◌, ◌⊎◌, inl, inr, ◌≤◌, ◌+◌, ◌-◌, ◌==◌, ℕ, zero, suc, Bool, true, false, cond, eqb-true, List, [], ◌∷◌, ◌++◌, Option, None, Some, option_map, take, drop, refl, sym, ap, subst, ◌∙◌, arith}
+use Rattle.std.proofs.Common.{rules, ◌≡◌, ◌⊎◌, inl, inr, ◌≤◌, ◌+◌, ◌-◌, ◌==◌, ℕ, zero, suc, Bool, true, false, cond, eqb-true, List, [], ◌∷◌, ◌++◌, Option, None, Some, option_map, take, drop, refl, sym, ap, subst, ◌∙◌, arith}
 use Rattle.std.specs.Prelude.{slice_get}
 use Rattle.cacache_history.specs.{declared.record.Record.{Record, TheVariants.{Began, Moved, Stopped}}, History.{History, Call, Turn, Made, new_call, turn_of, call_after, unless_over, moved_call, now_after, now_at, replayed, initial, IsLegal}, Turns.{EachTurn}, Places.{now_before, MoveAt, TurnIn, TurnsAreOwn, MovesAreOfCalls}}
 use Rattle.cacache_history.proofs.{Histories.Holding.{set_at, ended_at, replay_more, legal_after}, Each.{each_join, each_weaker}}
@@ -82,8 +82,7 @@ module _ (h : History) (m caller : ℕ) where
   -- after any record
   next_own : (n : ℕ) → m ≤ n → (r : Record) → slice_get h.records n ≡ Some r → OwnUpTo n ((now_before h n).calls caller)
       → OwnUpTo (suc n) ((now_after h.setup (now_before h n) r).calls caller)
-  next_own n from (Began c command) is own =
-      set_at (OwnUpTo (suc n)) (caller == c) (Some (new_call h.setup (now_before h n).begun command)) ((now_before h n).calls caller) tt (later n (suc n) (omega arith) _ own)
+  next_own n from (Began c command) is own = search (rules, set_at, later)
   next_own n from (Stopped c) is own = set_at (OwnUpTo (suc n)) (caller == c) None ((now_before h n).calls caller) tt (later n (suc n) (omega arith) _ own)
   next_own n from (Moved c luck made reply) is own = by (caller == c) refl
     where

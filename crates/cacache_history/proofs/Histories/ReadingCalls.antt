@@ -1,4 +1,5 @@
 -- Calls that read do nothing to the value, and answer bytes that meet their integrity.
+use native.Mathlib.Omega.{arith}
 use Rattle.std.proofs.Common.{◌≡◌, inl, inr, ℕ, List, [], ◌∷◌, Some, refl, sym, ap, subst, ◌∙◌}
 use Rattle.sha1.specs.Sha1.{sha1}
 use Rattle.cacache_core.specs.declared.integrity.digest.Hash.{Hash}
@@ -56,29 +57,17 @@ no_bytes : (how : How) (bytes : List ℕ) → Exports how (Read bytes) → ⊥
 no_bytes Copy bytes h = h
 no_bytes how bytes h = absurd cc
 
-not_stored : (i : List Hash) (bytes : List ℕ) → Read bytes ≡ Stored i → ⊥
-not_stored i bytes e = absurd cc
-
-not_done : (bytes : List ℕ) → Read bytes ≡ Done → ⊥
-not_done bytes e = absurd cc
-
 module _ (s : Setup) (n : ℕ) (turns : List Turn) (bytes : List ℕ) (hold : TurnsHold s turns) where
   is_verified : (command : Command) → Runs (opening (call_site s n) command) (made_in turns) (Read bytes) → IsVerified s command turns bytes
   is_verified (commands.GetHash i) run = calls_answer (call_site s n) (commands.GetHash i) (made_in turns) (Read bytes) run
   is_verified (commands.Get key) run =
       let m = gets_meet (call_site s n) key (made_in turns) bytes run in
       looked s key turns bytes m.0 m.1 hold m.2 m.3
-  is_verified (commands.Insert i) run =
-      absurd (not_stored (given_or no_integrity i.options.integrity) bytes (calls_answer (call_site s n) (commands.Insert i) (made_in turns) (Read bytes) run))
-  is_verified (commands.Delete d) run = absurd (not_done bytes (calls_answer (call_site s n) (commands.Delete d) (made_in turns) (Read bytes) run))
   is_verified (commands.Export (sources.Key key) e) run =
       absurd (no_bytes e.how bytes (calls_answer (call_site s n) (commands.Export (sources.Key key) e) (made_in turns) (Read bytes) run))
   is_verified (commands.Export (sources.Hash i) e) run =
       absurd (no_bytes e.how bytes (calls_answer (call_site s n) (commands.Export (sources.Hash i) e) (made_in turns) (Read bytes) run).0)
-  is_verified (commands.RemoveHash i) run = absurd (not_done bytes (calls_answer (call_site s n) (commands.RemoveHash i) (made_in turns) (Read bytes) run))
-  is_verified (commands.RemoveFully key) run = absurd (not_done bytes (calls_answer (call_site s n) (commands.RemoveFully key) (made_in turns) (Read bytes) run))
-  is_verified commands.Clear run = absurd (not_done bytes (calls_answer (call_site s n) commands.Clear (made_in turns) (Read bytes) run))
-  is_verified command run = absurd (calls_answer (call_site s n) command (made_in turns) (Read bytes) run)
+  is_verified command run = let h = calls_answer (call_site s n) command (made_in turns) (Read bytes) run in grind arith
 
 pub reads_are_verified : (h : History) → IsLegal h → ReadsAreVerified h
 reads_are_verified h legal call bytes reaches =

@@ -1,5 +1,5 @@
 -- The turns of a call that moved are a run of it.
-use Rattle.std.proofs.Common.{◌≡◌, ◌⊎◌, inl, inr, ◌∷◌, Option, None, Some, option_map, refl, sym, ap, subst, ◌∙◌}
+use Rattle.std.proofs.{Common.{arith, rules, ◌≡◌, ◌⊎◌, inl, inr, ◌∷◌, Option, None, Some, option_map, refl, sym, ap, subst, ◌∙◌}, lemmas.Grind.{common_steps}}
 use Rattle.cacache_core.specs.declared.errors.Error.TheVariants.{OutOfMemory}
 use Rattle.cacache_disk.specs.declared.luck.Luck.{Luck}
 use Rattle.cacache_calls.{specs.{declared.reply.Reply.{Reply}, Table.{opening}, Runs.{Runs, Goes, plain_reply}}, proofs.Going.{goes_over, goes_lost}}
@@ -13,8 +13,7 @@ pub record Reached (h : History) (call : Call) (reply : Option Reply) : Type 0 w
   pub ends : Ends call.state reply
 
 move_ends : (w : Now) (luck : Luck) (made : Option Made) (reply : Option Reply) (old : Call) → MayMove w.tree old.state luck made reply → Ends (call_after w.tree luck made old).state reply
-move_ends w luck None reply old may = may.1
-move_ends w luck (Some made) reply old may = may.3
+move_ends w luck made reply old may = grind (arith, common_steps)
 
 pub reached : (h : History) → IsLegal h → (call : Call) (reply : Option Reply) → Reaches h call reply → Reached h call reply
 reached h legal call reply r =
@@ -31,12 +30,7 @@ reached h legal call reply r =
 -- a call that is over made a run with its reply
 pub reply_run : (h : History) (call : Call) (r : Reply) → Reached h call (Some r)
     → (r ≡ replies.Refused OutOfMemory) ⊎ Runs (opening (call_site h.setup call.number) call.command) (made_in call.turns) (plain_reply r)
-reply_run h call r x =
-    elim x.ends [
-      | inl e ↦ inr (goes_over (opening (call_site h.setup call.number) call.command) (made_in call.turns) (plain_reply r)
-          (subst (λ s. Goes (opening (call_site h.setup call.number) call.command) (made_in call.turns) s) e x.holds.goes))
-      | inr e ↦ inl e
-    ]
+reply_run h call r x = search (rules, goes_over)
 
 pub calls_are_runs : (h : History) → IsLegal h → CallsAreRuns h
 calls_are_runs h legal call r reaches = reply_run h call r (reached h legal call (Some r) reaches)
@@ -48,5 +42,4 @@ lost_run h call reply x = goes_lost (opening (call_site h.setup call.number) cal
 
 -- without its message, a reply is out of memory only if it was
 pub memory_plain : (r : Reply) → plain_reply r ≡ replies.Refused OutOfMemory → r ≡ replies.Refused OutOfMemory
-memory_plain (replies.Refused OutOfMemory) e = refl
-memory_plain r e = absurd cc
+memory_plain r e = grind (arith, common_steps)

@@ -1,5 +1,6 @@
 -- Replies read the value at the places of their turns.
-use Rattle.std.{proofs.{Common.{◌≡◌, ℕ, List, [], ◌∷◌, Option, Some, Result, Ok, Err, refl, sym, ap, subst, ◌∙◌, arith}, lemmas.List.Elements.{All-head}}, specs.Prelude.{All}}
+use Rattle.std.proofs.{lemmas.{Grind.{common_steps}, List.Elements.{All-head}}, Common.{rules, ◌≡◌, ℕ, List, [], ◌∷◌, Option, Some, Result, Ok, Err, refl, sym, ap, subst, ◌∙◌, arith}}
+use Rattle.std.specs.Prelude.{All}
 use Rattle.sha1.specs.Sha1.{sha1}
 use Rattle.cacache_core.specs.{declared.{errors.Fault.{Fault}, integrity.digest.Hash.{Hash}}, Integrity.{IsHash, IsIntegrity}, Paths.{content_names, bucket_names_of}}
 use Rattle.cacache_core.proofs.{JoinedNames.{joined_texts_name}, PathLemmas.{keys_have_digests}, ProperNames.{names_are_proper}}
@@ -18,24 +19,13 @@ use Rattle.cacache_history.proofs.{Entries.Spelled.{HasIntegrity, latest_has}, H
 -- ---- what answers show
 
 bucket_is : (bucket : Option (List Entry)) (path : List ℕ) (a : PlainAnswer) → Fits (steps.ReadAll path) a → ShowsBucket bucket a → bucket_shown a ≡ shown_result a (Ok (list_of bucket))
-bucket_is bucket path (answers.Bytes bytes) fits h = ap (λ b. Ok (list_of b)) (sym h)
-bucket_is bucket path (answers.Failed faults.NotFound) fits h = ap (λ b. Ok (list_of b)) (sym h)
-bucket_is bucket path (answers.Failed fault) fits h = refl
-bucket_is bucket path (answers.NoMemory step) fits h = refl
-bucket_is bucket path other fits h = absurd fits
+bucket_is bucket path a fits h = grind (arith, common_steps)
 
 content_is : (content : Result (List ℕ) Fault) (path : List ℕ) (a : PlainAnswer) → Fits (steps.ReadAll path) a → ShowsContent content a → bytes_in a ≡ shown_result a (as_refusal content)
-content_is content path (answers.Bytes bytes) fits h = ap as_refusal (sym h)
-content_is content path (answers.Failed faults.NotFound) fits h = ap as_refusal (sym h)
-content_is content path (answers.Failed fault) fits h = refl
-content_is content path (answers.NoMemory step) fits h = refl
-content_is content path other fits h = absurd fits
+content_is content path a fits h = grind (arith, common_steps)
 
 there_is : (content : PlainAnswer) (path : List ℕ) (a : PlainAnswer) → Fits (steps.Exists path) a → ShowsThere content a → there_in a ≡ unless_failed a (there_in content)
-there_is content path (answers.There there) fits h = ap there_in (sym h)
-there_is content path (answers.Failed fault) fits h = refl
-there_is content path (answers.NoMemory step) fits h = refl
-there_is content path other fits h = absurd fits
+there_is content path a fits h = grind (arith, common_steps)
 
 -- ---- places
 
@@ -61,16 +51,10 @@ module _ (s : Setup) (turn : Turn) (h : TurnHolds s turn) where
 
   pub bucket_at_turn : (path digest : List ℕ) → turn.move.step ≡ steps.ReadAll path → NamesBelow (home s) (bucket_names_of digest) path
       → bucket_shown turn.move.answer ≡ bucket_read s digest turn
-  bucket_at_turn path digest is below =
-      bucket_is _ path turn.move.answer (fits_is (steps.ReadAll path) is)
-      (subst (ShowsBucket _) (sym (answer_is (steps.ReadAll path) is)) (shows.bucket digest path turn.move.luck below))
+  bucket_at_turn path digest is below = search (rules, bucket_is, fits_is, answer_is, shows)
 
   content_at_turn : (i : List Hash) → IsIntegrity i → turn.move.step ≡ steps.ReadAll (content_path s.cache i) → bytes_in turn.move.answer ≡ content_read s i turn
-  content_at_turn [] integrity is = absurd (omega (arith, integrity.nonempty))
-  content_at_turn (a ∷ hs) integrity is =
-      let path = content_path s.cache (a ∷ hs) in
-      content_is _ path turn.move.answer (fits_is (steps.ReadAll path) is)
-      (subst (ShowsContent _) (sym (answer_is (steps.ReadAll path) is)) (shows.content a path turn.move.luck (content_below s a hs (All-head IsHash a hs integrity.hashes))))
+  content_at_turn i integrity is = grind (arith, content_is, fits_is, answer_is, shows, content_below)
 
   pub there_at : (a : Hash) (hs : List Hash) → IsHash a → turn.move.step ≡ steps.Exists (content_path s.cache (a ∷ hs)) → there_in turn.move.answer ≡ there_read s (a ∷ hs) turn
   there_at a hs hash is =
@@ -79,8 +63,7 @@ module _ (s : Setup) (turn : Turn) (h : TurnHolds s turn) where
       (subst (ShowsThere _) (sym (answer_is (steps.Exists path) is)) (shows.there a path turn.move.luck (content_below s a hs hash)))
 
   there_at_turn : (i : List Hash) → IsIntegrity i → turn.move.step ≡ steps.Exists (content_path s.cache i) → there_in turn.move.answer ≡ there_read s i turn
-  there_at_turn [] integrity is = absurd (omega (arith, integrity.nonempty))
-  there_at_turn (a ∷ hs) integrity is = there_at a hs (All-head IsHash a hs integrity.hashes) is
+  there_at_turn i integrity is = grind (arith, there_at)
 
 -- ---- turns and moves
 
@@ -136,10 +119,7 @@ module _ (s : Setup) where
   FoundHas (Err refusal) = Unit {0}
 
   pub bucket_has : (key : List ℕ) (entries : List Entry) (a : PlainAnswer) → All IsEntry entries → FoundHas (lookup key (shown_result a (Ok entries)))
-  bucket_has key entries (answers.Failed faults.NotFound) all = latest_has key entries all
-  bucket_has key entries (answers.Failed fault) all = tt
-  bucket_has key entries (answers.NoMemory step) all = tt
-  bucket_has key entries other all = latest_has key entries all
+  bucket_has key entries a all = grind (arith, latest_has)
 
   reads_on : (key : List ℕ) (found : Result (Option Found) Refusal) (turns : List Turn) (r : Reply) → FoundHas found → TurnsHold s turns
       → ReadsOn s.cache key found (made_in turns) r → ReadsNext s key found turns r
@@ -172,12 +152,7 @@ ListsBucket s turn =
 
 items_is : (a : PlainAnswer) (r : Result (List Entry) Refusal) → bucket_shown a ≡ r → by_bucket (bytes_in a) ≡ by_entries r
 unfolding items_in
-items_is a r e = by (bytes_in a) ∙ ap by_entries e
-  where
-    by : (b : Result (List ℕ) Refusal) → by_bucket b ≡ by_entries (entries_shown b)
-    by (Err (refusals.Fault faults.NotFound)) = refl
-    by b = refl
+items_is a r e = search rules
 
 pub lists_bucket : (s : Setup) (turn : Turn) → TurnHolds s turn → ListsBucket s turn
-lists_bucket s turn h path digest is below =
-    ap (λ x. given_by x turn.move.answer) is ∙ items_is turn.move.answer (bucket_read s digest turn) (bucket_at_turn s turn h path digest is below)
+lists_bucket s turn h path digest is below = search (rules, items_is, bucket_at_turn)

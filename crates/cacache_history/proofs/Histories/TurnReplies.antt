@@ -1,5 +1,5 @@
 -- Each reply of a call that reads is what its turns show.
-use Rattle.std.proofs.Common.{◌≡◌, ◌⊎◌, inl, inr, ℕ, List, Some, refl, sym, subst, Bool, true, false}
+use Rattle.std.proofs.{Common.{arith, rules, ◌≡◌, ◌⊎◌, inl, inr, ℕ, List, Some, refl, sym, subst, Bool, true, false}, lemmas.Grind.{common_steps}}
 use Rattle.cacache_core.specs.declared.errors.Error.TheVariants.{OutOfMemory}
 use Rattle.cacache_calls.specs.{declared.{command.Command.{Command}, reply.Reply.{Reply, TheVariants.{Refused}}}, Causes.{HasCause, own_of}, Runs.{Runs, plain_reply}, Table.{opening}, Verifying.{Verifies, UnlessRefused}}
 use Rattle.cacache_calls.proofs.{Replies.{finds_shown, gets_shown, reads_shown, exists_shown}, EarnedErrors.{io_errors_have_causes}, Verifying.{exports_verify}}
@@ -10,12 +10,10 @@ use Rattle.cacache_calls.specs.declared.reply.Reply.TheVariants as replies
 
 module _ (s : Setup) (n : ℕ) where
   if_checked : (b : Bool) (X : Type 0) → (b ≡ true → X) → IfChecked b X
-  if_checked true X h = h refl
-  if_checked false X h = tt
+  if_checked b X h = grind (arith, common_steps)
 
   unless_refused : (X Y : Type 0) (r : Reply) → (X → Y) → UnlessRefused X r → UnlessRefused Y r
-  unless_refused X Y (replies.Refused e) h x = tt
-  unless_refused X Y r h x = h x
+  unless_refused X Y r h x = grind (arith, common_steps)
 
   pub reads_value : (command : Command) (turns : List Turn) (r : Reply) → NamesIntegrity command → TurnsHold s turns → EachTurn (KeyedTurn s) turns → Runs (opening (call_site s n) command) (made_in turns) r
       → (r ≡ Refused OutOfMemory) ⊎ ReadsValue s command turns r
@@ -28,11 +26,7 @@ module _ (s : Setup) (n : ℕ) where
   reads_value (commands.Exists i) turns r named hold keyed run =
       elim (exists_shown (call_site s n) i (made_in turns) r run) [ inl e ↦ inl e | inr h ↦ inr (asks s i turns r named hold h) ]
   reads_value commands.Ls turns r named hold keyed run = lists s n turns r hold keyed run
-  reads_value (commands.Export source e) turns r named hold keyed run =
-      inr (if_checked e.checked _ (λ checked.
-      unless_refused (Verifies s.cache source (made_in turns) r) (ExportsHeld s source turns r) r
-      (exports s source turns r named hold (run_asks (opening (call_site s n) (commands.Export source e)) (made_in turns) r run))
-      (exports_verify (call_site s n) source e (made_in turns) r checked run)))
+  reads_value (commands.Export source e) turns r named hold keyed run = search (rules, if_checked, unless_refused, exports, run_asks, exports_verify)
   reads_value other turns r named hold keyed run = inr tt
 
 pub replies_read_value : (h : History) → IsLegal h → RepliesReadValue h

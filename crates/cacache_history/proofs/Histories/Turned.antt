@@ -1,5 +1,5 @@
 -- Each turn of a call is a move of the history.
-use Rattle.std.proofs.Common.{◌≡◌, ◌==◌, ℕ, List, [], ◌∷◌, ◌++◌, Option, None, Some, option_map, refl, sym, subst, ◌∙◌, append_assoc, append-nil}
+use Rattle.std.proofs.Common.{arith, rules, ◌≡◌, ◌==◌, ℕ, List, [], ◌∷◌, ◌++◌, Option, None, Some, option_map, refl, sym, subst, ◌∙◌, append_assoc, append-nil}
 use Rattle.cacache_disk.specs.declared.luck.Luck.{Luck}
 use Rattle.cacache_calls.specs.declared.reply.Reply.{Reply}
 use Rattle.cacache_history.specs.{declared.record.Record.{Record, TheVariants.{Began, Moved, Stopped}}, History.{History, Call, Made, initial, new_call, turn_of, call_after, unless_over, moved_call, now_after, now_at, Reaches}, Turns.{EachTurn}, TurnPlaces.{TurnAt, TurnsAreMoves}}
@@ -12,16 +12,11 @@ TurnsAt h (Some call) = EachTurn (TurnAt h) call.turns
 module _ (h : History) where
   moved_stands : (past later : List Record) (caller : ℕ) (luck : Luck) (made : Option Made) (reply : Option Reply) (o : Option Call)
       → h.records ≡ past ++ Moved caller luck made reply ∷ later → TurnsAt h o → TurnsAt h (option_map (call_after (now_at h past).tree luck made) o)
-  moved_stands past later caller luck made reply None is a = tt
-  moved_stands past later caller luck None reply (Some call) is a = a
-  moved_stands past later caller luck (Some made) reply (Some call) is a =
-      each_join (TurnAt h) call.turns (turn_of (now_at h past).tree luck made ∷ []) a
-      (record { before = past; later = later; caller = caller; luck = luck; made = made; reply = reply; is = is; turn_is = refl }, tt)
+  moved_stands past later caller luck made reply o is a = grind (arith, each_join)
 
   next_stands : (past later : List Record) (r : Record) → h.records ≡ past ++ r ∷ later → ((k : ℕ) → TurnsAt h ((now_at h past).calls k))
       → (k : ℕ) → TurnsAt h ((now_after h.setup (now_at h past) r).calls k)
-  next_stands past later (Began caller command) is a k =
-      set_at (TurnsAt h) (k == caller) (Some (new_call h.setup (now_at h past).begun command)) ((now_at h past).calls k) tt (a k)
+  next_stands past later (Began caller command) is a k = search (rules, set_at)
   next_stands past later (Moved caller luck made reply) is a k =
       set_at (TurnsAt h) (k == caller) (unless_over reply (moved_call (now_at h past) caller luck made)) ((now_at h past).calls k)
       (ended_at (TurnsAt h) tt reply _ (moved_stands past later caller luck made reply ((now_at h past).calls caller) is (a caller))) (a k)

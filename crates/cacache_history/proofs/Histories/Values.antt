@@ -1,5 +1,5 @@
 -- The value follows the acts of the records, and buckets only grow.
-use Rattle.std.proofs.Common.{◌≡◌, ℕ, Bool, true, false, cond, List, [], ◌∷◌, ◌++◌, Option, None, Some, refl, sym, ap, subst, ◌∙◌}
+use Rattle.std.proofs.{Common.{arith, ◌≡◌, ℕ, Bool, true, false, cond, List, [], ◌∷◌, ◌++◌, Option, None, Some, refl, sym, ap, subst, ◌∙◌}, lemmas.Grind.{common_steps}}
 use Rattle.cacache_disk.specs.declared.luck.Luck.{Luck}
 use Rattle.cacache_calls.specs.declared.reply.Reply.{Reply}
 use Rattle.cacache_core.specs.{declared.integrity.digest.Hash.{Hash}, PathNames.{Names}, Paths.{content_names}}
@@ -16,11 +16,7 @@ pub record Traced (s : Setup) (w : Now) (records : List Record) : Type 0 where
 module _ (s : Setup) (apart : LieApart (home s) s.outside) where
   move_traced : (w : Now) (caller : ℕ) (luck : Luck) (made : Option Made) (reply : Option Reply) (records : List Record) (call : Call) → w.calls caller ≡ Some call
       → MayMove w.tree call.state luck made reply → AllHold s w → Traced s (now_after s w (Moved caller luck made reply)) records → Traced s w (Moved caller luck made reply ∷ records)
-  move_traced w caller luck None reply records call e may h more = record { trace = more.trace; leads = more.leads }
-  move_traced w caller luck (Some made) reply records call e may h more = record {
-    trace = (made_proper s apart w.tree luck made reply call (of_caller s call _ e (h.calls caller)) may, may.1, more.trace);
-    leads = more.leads;
-  }
+  move_traced w caller luck made reply records call e may h more = grind (arith, made_proper, of_caller)
 
   pub traced : (w : Now) (records : List Record) → Legal s w records → AllHold s w → Traced s w records
   traced w [] legal h = record { trace = tt; leads = refl }
@@ -60,14 +56,10 @@ buckets_only_grow h legal before more later digest is keeps =
 -- ---- contents
 
 put_there : (b : Bool) (old : Option Blob) (new : Blob) → IsThere old → IsThere (cond b (Some new) old)
-put_there true old new h = tt
-put_there false old new h = h
+put_there b old new h = grind (arith, common_steps)
 
 change_stays : (folder : Option Names) (v : Value) (address : Hash) (act : Act) → KeepsContent folder address act → IsThere (v.contents address) → IsThere ((change folder act v).contents address)
-change_stays folder v address (PutBytes path bytes) keeps h = put_there (is_path_of folder (content_names address) path) (v.contents address) (InFile bytes) h
-change_stays folder v address (PutLink path target) keeps h = put_there (is_path_of folder (content_names address) path) (v.contents address) (AtLink target) h
-change_stays folder v address (Drop path) keeps h = rw keeps h
-change_stays folder v address act keeps h = h
+change_stays folder v address act keeps h = grind (arith, put_there)
 
 acts_stay : (folder : Option Names) (v : Value) (address : Hash) (moves : List Move) → KeepContent folder address moves → IsThere (v.contents address) → IsThere ((acts folder v moves).contents address)
 acts_stay folder v address [] keep h = h

@@ -1,30 +1,18 @@
 -- What a walk answers after it gave some items, if it may still take so many names.
-use Rattle.std.proofs.{Common.{◌≡◌, ◌≤◌, ◌<◌, ◌+◌, ◌-◌, ℕ, Bool, true, false, cond, ◌||◌, List, [], ◌∷◌, ◌++◌, length, take, nat_lt, refl, sym, ap, ◌∙◌, arith, append_assoc, append-nil}, lemmas.Bool.{ltb-true, ltb-false}}
+use Rattle.std.proofs.{lemmas.{Grind.{common_steps}, Bool.{ltb-true, ltb-false}}, Common.{rules, ◌≡◌, ◌≤◌, ◌<◌, ◌+◌, ◌-◌, ℕ, Bool, true, false, cond, ◌||◌, List, [], ◌∷◌, ◌++◌, length, take, nat_lt, refl, sym, ap, ◌∙◌, arith, append_assoc, append-nil}}
 use Rattle.cacache_calls.specs.{Answers.{names_in}, ListReplies.{too_deep}, State.{State, Item}, Walking.{most}}
 use Rattle.cacache_history.specs.{History.{Turn}, ListingTurns.{count_in, names_given}}
 
 -- ---- tests on numbers
 
 not_lt : (a b : ℕ) → b ≤ a → nat_lt a b ≡ false
-not_lt a b le = by (nat_lt a b) refl
-  where
-    by : (x : Bool) → nat_lt a b ≡ x → x ≡ false
-    by true e = absurd (omega (arith, ltb-true a b e, le))
-    by false e = refl
+not_lt a b le = search rules
 
 pub is_lt : (a b : ℕ) → a < b → nat_lt a b ≡ true
-is_lt a b lt = by (nat_lt a b) refl
-  where
-    by : (x : Bool) → nat_lt a b ≡ x → x ≡ true
-    by true e = refl
-    by false e = absurd (omega (arith, ltb-false a b e, lt))
+is_lt a b lt = search rules
 
 less_left : (left n m : ℕ) → n ≤ left → nat_lt (left - n) m ≡ nat_lt left (n + m)
-less_left left n m le = by (nat_lt (left - n) m) refl
-  where
-    by : (x : Bool) → nat_lt (left - n) m ≡ x → x ≡ nat_lt left (n + m)
-    by true e = sym (is_lt left (n + m) (omega (arith, ltb-true (left - n) m e, le)))
-    by false e = sym (not_lt left (n + m) (omega (arith, ltb-false (left - n) m e, le)))
+less_left left n m le = search (rules, is_lt, not_lt)
 
 -- ---- what a walk answers after it gave these items, if it may still take so many names
 
@@ -53,5 +41,4 @@ ended_more front new left n turn turns items is le =
     ∙ ap (λ b. cond b (take most (front ++ (new ++ items)) ++ too_deep ∷ []) (front ++ (new ++ items))) (far_more front new left n turn turns items is le)
 
 pub pick : (P : State → Type 0) (b : Bool) (s t : State) → b ≡ false → P (cond b s t) → P t
-pick P true s t e h = absurd cc
-pick P false s t e h = h
+pick P b s t e h = grind (arith, common_steps)

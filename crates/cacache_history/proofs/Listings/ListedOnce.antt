@@ -1,5 +1,5 @@
 -- A listing names no key twice.
-use Rattle.std.proofs.{Common.{◌≡◌, inl, inr, ℕ, List, [], ◌∷◌, ◌++◌, Option, None, Some, option_map, filter_map, map, Result, Ok, Err, refl, sym, ap, subst, ◌∙◌}, lemmas.List.Elements.{All-nil, All-cons, All-append, All-head, All-tail, All-weaker}}
+use Rattle.std.proofs.{Common.{arith, ◌≡◌, inl, inr, ℕ, List, [], ◌∷◌, ◌++◌, Option, None, Some, option_map, filter_map, map, Result, Ok, Err, refl, sym, ap, subst, ◌∙◌}, lemmas.{Grind.{common_steps}, List.Elements.{All-nil, All-cons, All-append, All-head, All-tail, All-weaker}}}
 use Rattle.std.specs.{Prelude.{All}, List.{cons_option}}
 use Rattle.sha1.specs.Sha1.{sha1}
 use Rattle.cacache_core.specs.declared.errors.Fault.TheVariants as faults
@@ -27,8 +27,7 @@ OtherSha key (Err e) = Unit {0}
 
 module _ (es : List Entry) where
   key_of : (key k : List ℕ) → sha1 k ≡ sha1 key → (o : Option Found) → latest k es ≡ o → (rest : List Item) → All (OfKey key) rest → All (OfKey key) (cons_option (option_map Ok o) rest)
-  key_of key k own None is rest h = h
-  key_of key k own (Some f) is rest h = All-cons (OfKey key) (Ok f) rest (ap sha1 (latest_key k es f is) ∙ own) h
+  key_of key k own o is rest h = grind (arith, latest_key)
 
   keys_of_bucket : (key : List ℕ) (ks : List (List ℕ)) → All (λ k. sha1 k ≡ sha1 key) ks → All (OfKey key) (filter_map (λ k. option_map Ok (latest k es)) ks)
   keys_of_bucket key [] all = All-nil (OfKey key)
@@ -41,8 +40,7 @@ module _ (es : List Entry) where
 
   other_at : (key k j : List ℕ) (js : List (List ℕ)) → key ≡ k → (In k (j ∷ js) → ⊥) → (o : Option Found) → latest j es ≡ o → (rest : List Item) → All (OtherKey key) rest
       → All (OtherKey key) (cons_option (option_map Ok o) rest)
-  other_at key k j js same none None is rest h = h
-  other_at key k j js same none (Some g) is rest h = All-cons (OtherKey key) (Ok g) rest (λ e. none (inl (sym same ∙ sym e ∙ latest_key j es g is))) h
+  other_at key k j js same none o is rest h = grind (arith, latest_key)
 
   others : (key k : List ℕ) (ks : List (List ℕ)) → key ≡ k → (In k ks → ⊥) → All (OtherKey key) (filter_map (λ j. option_map Ok (latest j es)) ks)
   others key k [] same none = All-nil (OtherKey key)
@@ -61,12 +59,10 @@ module _ (es : List Entry) where
   items_once = keys_once (once (keys_of es)) (each_key_once es).0
 
 refused_of : (key : List ℕ) (refusal : Refusal) → All (OfKey key) (by_entries (Err refusal))
-refused_of key (refusals.Fault fault) = All-cons (OfKey key) (failed fault) [] tt (All-nil (OfKey key))
-refused_of key refusals.Memory = All-nil (OfKey key)
+refused_of key refusal = grind (arith, common_steps)
 
 refused_once : (refusal : Refusal) → NoKeyTwice (by_entries (Err refusal))
-refused_once (refusals.Fault fault) = tt
-refused_once refusals.Memory = tt
+refused_once refusal = grind (arith, common_steps)
 
 bucket_of : (key : List ℕ) (es : List Entry) (a : PlainAnswer) → All (OfBucket key) es → All (OfKey key) (by_entries (shown_result a (Ok es)))
 bucket_of key es (answers.Failed faults.NotFound) all = items_of_bucket es key all
@@ -75,28 +71,21 @@ bucket_of key es (answers.NoMemory step) all = refused_of key refusals.Memory
 bucket_of key es other all = items_of_bucket es key all
 
 bucket_once : (es : List Entry) (a : PlainAnswer) → NoKeyTwice (by_entries (shown_result a (Ok es)))
-bucket_once es (answers.Failed faults.NotFound) = items_once es
-bucket_once es (answers.Failed fault) = refused_once (refusals.Fault fault)
-bucket_once es (answers.NoMemory step) = refused_once refusals.Memory
-bucket_once es other = items_once es
+bucket_once es a = grind (arith, items_once, refused_once)
 
 -- ---- many turns
 
 folder_other : (key : List ℕ) (a : Result (List Name) Refusal) → All (OtherSha key) (by_folder a)
-folder_other key (Err (refusals.Fault fault)) = All-cons (OtherSha key) (failed fault) [] tt (All-nil (OtherSha key))
-folder_other key a = All-nil (OtherSha key)
+folder_other key a = grind (arith, common_steps)
 
 folder_once : (a : Result (List Name) Refusal) (rest : List Item) → NoKeyTwice rest → NoKeyTwice (by_folder a ++ rest)
-folder_once (Err refusals.Memory) rest h = h
-folder_once a rest h = h
+folder_once a rest h = grind (arith, common_steps)
 
 other_weaker : (key other : List ℕ) → (sha1 other ≡ sha1 key → ⊥) → (item : Item) → OfKey other item → OtherSha key item
-other_weaker key other differ (Ok f) own = λ e. differ (sym own ∙ e)
-other_weaker key other differ (Err e) own = tt
+other_weaker key other differ item own = grind (arith, common_steps)
 
 key_weaker : (key : List ℕ) (f : Found) → sha1 f.key ≡ sha1 key → (item : Item) → OtherSha key item → OtherKey f.key item
-key_weaker key f own (Ok g) other = λ e. other (ap sha1 e ∙ own)
-key_weaker key f own (Err e) other = tt
+key_weaker key f own item other = grind (arith, common_steps)
 
 append_once : (key : List ℕ) (first rest : List Item) → All (OfKey key) first → All (OtherSha key) rest → NoKeyTwice first → NoKeyTwice rest → NoKeyTwice (first ++ rest)
 append_once key [] rest own other h k = k

@@ -1,5 +1,5 @@
 -- A listing answers what its turns gave.
-use Rattle.std.proofs.{Common.{◌≡◌, ◌⊎◌, inl, inr, ◌≤◌, ◌<◌, ◌+◌, ◌-◌, ℕ, true, false, cond, ◌||◌, List, [], ◌∷◌, ◌++◌, Option, None, Some, Result, Ok, Err, length, take, drop, nat_le, nat_lt, refl, sym, ap, subst, ◌∙◌, arith, append-nil, length-append}, lemmas.{Bool.{leb-true, leb-false, or_right}, List.{take_all, take_at, Elements.{All-nil}}, Option.{same_Some}}}
+use Rattle.std.proofs.{lemmas.{Grind.{common_steps}, Bool.{leb-true, leb-false, or_right}, List.{take_all, take_at, Elements.{All-nil}}, Option.{same_Some}}, Common.{rules, ◌≡◌, ◌⊎◌, inl, inr, ◌≤◌, ◌<◌, ◌+◌, ◌-◌, ℕ, true, false, cond, ◌||◌, List, [], ◌∷◌, ◌++◌, Option, None, Some, Result, Ok, Err, length, take, drop, nat_le, nat_lt, refl, sym, ap, subst, ◌∙◌, arith, append-nil, length-append}}
 use Rattle.std.specs.Prelude.{All}
 use Rattle.sha1.specs.Sha1.{sha1}
 use Rattle.cacache_core.specs.{declared.errors.{Fault.{Fault}, Error.TheVariants.{OutOfMemory}}, PathNames.{IsProperName}, Paths.{join, joined, bucket_names, index_area}}
@@ -35,8 +35,7 @@ module _ (s : Setup) (r : Reply) where
   -- ---- the end
 
   no_more : (w : Walk) (turns : List Turn) → length w.items ≤ most → turns ≡ [] → (r ≡ Listed w.items) ⊎ (r ≡ Refused OutOfMemory) → Gives w [] turns
-  no_more w turns le none is =
-      subst (Gives w []) (sym none) ([], refl, elim is [ inl e ↦ inr (e ∙ ap Listed (sym (ended_now w.items w.left le)), λ near key each covers. absurd covers) | inr e ↦ inl e ])
+  no_more w turns le none is = search (rules, ended_now)
 
   -- past the most names or items
   past : (w : Walk) (tasks : List Task) (new list : List Item) (turn : Turn) (turns : List Turn) → TurnGives s turn turn.move.step new
@@ -137,8 +136,7 @@ module _ (s : Setup) (r : Reply) where
 
   -- a whole read gives no names
   no_names : (p : List ℕ) (a : PlainAnswer) → Fits (steps.ReadAll p) a → count_in (names_in a) ≡ 0
-  no_names p (answers.Names ns) fits = absurd fits
-  no_names p other fits = refl
+  no_names p a fits = grind (arith, common_steps)
 
   step_gives : (turn : Turn) (step : PlainStep) (items : List Item) → step ≡ turn.move.step → TurnGives s turn step items → TurnGives s turn turn.move.step items
   step_gives turn step items is h = subst (λ x. TurnGives s turn x items) is h
@@ -155,8 +153,7 @@ module _ (s : Setup) (r : Reply) where
   module _ (turn : Turn) where
     -- the bucket that a visit leads to is read
     reads_follow : (p : List ℕ) (todo : List Task) → steps.ReadAll p ≡ turn.move.step → Follows turn (Make (ReadBucket p) ∷ todo) todo
-    reads_follow p todo is key has (inl c) = inl (inl (sym is ∙ ap steps.ReadAll c))
-    reads_follow p todo is key has (inr c) = inr c
+    reads_follow p todo is key has h = grind (arith, common_steps)
 
     fails_follow : (p : List ℕ) (level : ℕ) (todo : List Task) (refusal : Refusal) → steps.ReadDir p ≡ turn.move.step → names_in turn.move.answer ≡ Err refusal
         → Follows turn (Make (Enter p level) ∷ todo) todo
@@ -192,9 +189,7 @@ module _ (s : Setup) (r : Reply) where
   before st turn turns holds keyed is h = tt
 
   memory_ends : (st : State) → r ≡ Refused OutOfMemory → Rest st []
-  memory_ends (walking w v todo) e = λ c le visits tasks. ([], refl, inl e)
-  memory_ends (over reply) e = (refl, inr e)
-  memory_ends st e = tt
+  memory_ends st e = grind (arith, common_steps)
 
   runs_rest : (st : State) (turns : List Turn) → TurnsHold s turns → EachTurn (KeyedTurn s) turns → Runs st (made_in turns) r → Rest st turns
   runs_rest st [] hold keyed (inl e) = subst (λ x. Rest x []) (sym e) (refl, inl refl)

@@ -1,5 +1,5 @@
 -- A listing reads folders of the index and buckets of keys, and answers what they give.
-use Rattle.std.proofs.{Common.{◌≡◌, ◌⊎◌, inl, inr, ◌≤◌, ◌<◌, ◌+◌, ℕ, zero, suc, Bool, true, false, cond, List, [], ◌∷◌, ◌++◌, Option, None, Some, Ok, length, take, nat_lt, refl, sym, ap, subst, ◌∙◌, arith, append_assoc, length-append}, lemmas.{Bool.{ltb-false}, List.{append_cancel_left, take_at, Elements.{All-nil, All-cons, All-append, All-head, All-tail, All-take}}}}
+use Rattle.std.proofs.{lemmas.{Grind.{common_steps}, Bool.{ltb-false}, List.{append_cancel_left, take_at, Elements.{All-nil, All-cons, All-append, All-head, All-tail, All-take}}}, Common.{rules, ◌≡◌, ◌⊎◌, inl, inr, ◌≤◌, ◌<◌, ◌+◌, ℕ, zero, suc, Bool, true, false, cond, List, [], ◌∷◌, ◌++◌, Option, None, Some, Ok, length, take, nat_lt, refl, sym, ap, subst, ◌∙◌, arith, append_assoc, length-append}}
 use Rattle.std.specs.Prelude.{All}
 use Rattle.sha1.specs.Sha1.{sha1}
 use Rattle.cacache_core.specs.declared.errors.Fault.TheVariants as faults
@@ -70,8 +70,7 @@ joined_more path (m ∷ names) n = joined_more (join path m) names n
 
 -- the names of a path below a folder that has names
 pub below_is : (home : Option Names) (names path : Names) → names_below home names ≡ Ok path → (folder : Names) × (home ≡ Some folder) × (folder ++ names ≡ path)
-below_is None names path e = absurd cc
-below_is (Some folder) names path e = (folder, refl, cc)
+below_is home names path e = grind (arith, common_steps)
 
 module _ (s : Setup) (t : Tree) (folder names : Names) (placed : Placed (Some folder) t) (keyed : BucketsHaveKeys (Some folder) t)
     (proper : All IsProperName names) (high : length names ≤ 2) (p : List ℕ) (is : p ≡ joined s.cache (index_area ∷ names)) where
@@ -135,13 +134,11 @@ child_named s p folder names n proper here is own =
 
 -- a listing leaves no task after a folder
 pub no_leaving : (s : Setup) (clears : Bool) (level : ℕ) (p : List ℕ) → clears ≡ false → Tasks s (leaving clears level p)
-no_leaving s true level p e = absurd cc
-no_leaving s false level p e = tt
+no_leaving s clears level p e = grind (arith, common_steps)
 
 -- what a fitting answer says of the names
 pub proper_names : (p : List ℕ) (a : PlainAnswer) (ns : List Name) → Fits (steps.ReadDir p) a → names_in a ≡ Ok ns → AreProperNames ns
-proper_names p (answers.Names given) ns fits e = let same : given ≡ ns = cc in subst AreProperNames same fits
-proper_names p other ns fits e = absurd cc
+proper_names p a ns fits e = grind (arith, common_steps)
 
 -- the tasks that a folder brings
 pub folder_tasks : (s : Setup) (turn : Turn) (p : List ℕ) (level : ℕ) (ns : List Name) (clears : Bool) → clears ≡ false → TurnHolds s turn → KeyedTurn s turn
@@ -186,15 +183,13 @@ covers_right s key (Stumble fault path ∷ a) b h = covers_right s key a b h
 among_covers : (s : Setup) (key : List ℕ) (level : ℕ) (p : List ℕ) (n : Name) (ns : List Name) → IsAmong n ns → CoversAny s key (task_for_name false level (join p n.name) n.kind ∷ [])
     → CoversAny s key (tasks_of false level p ns)
 among_covers s key level p n [] among c = absurd among
-among_covers s key level p n (m ∷ ns) (inl same) c =
-    covers_left s key (task_for_name false level (join p m.name) m.kind ∷ []) (tasks_of false level p ns) (subst (λ k. CoversAny s key (task_for_name false level (join p k.name) k.kind ∷ [])) same c)
+among_covers s key level p n (m ∷ ns) (inl same) c = search (rules, covers_left)
 among_covers s key level p n (m ∷ ns) (inr among) c =
     covers_right s key (task_for_name false level (join p m.name) m.kind ∷ []) (tasks_of false level p ns) (among_covers s key level p n ns among c)
 
 -- the file of a bucket that the value holds
 bucket_file : (o : Option Node) (entries : List Entry) → bucket_in o ≡ Some entries → (bytes : List ℕ) × (o ≡ Some (File bytes))
-bucket_file (Some (File bytes)) entries e = (bytes, refl)
-bucket_file o entries e = absurd cc
+bucket_file o entries e = grind (arith, common_steps)
 
 -- the first names of a bucket's path are proper
 front_proper : (key : List ℕ) (front rest : Names) → front ++ rest ≡ bucket_names key → All IsProperName front

@@ -1,5 +1,5 @@
 -- A listing reads nothing twice.
-use Rattle.std.proofs.{Common.{◌≡◌, inl, inr, ◌+◌, ◌-◌, ℕ, Bool, true, false, cond, List, [], ◌∷◌, ◌++◌, Some, Result, Ok, Err, length, take, nat_le, nat_lt, refl, sym, ap, subst, ◌∙◌, arith, append-nil}, lemmas.{List.Elements.{All-nil, All-cons, All-head, All-tail}, Option.{same_Some}}}
+use Rattle.std.proofs.{lemmas.{Grind.{common_steps}, List.Elements.{All-nil, All-cons, All-head, All-tail}, Option.{same_Some}}, Common.{rules, ◌≡◌, inl, inr, ◌+◌, ◌-◌, ℕ, Bool, true, false, cond, List, [], ◌∷◌, ◌++◌, Some, Result, Ok, Err, length, take, nat_le, nat_lt, refl, sym, ap, subst, ◌∙◌, arith, append-nil}}
 use Rattle.std.specs.Prelude.{All}
 use Rattle.cacache_core.specs.{declared.errors.Fault.{Fault}, PathNames.{Names, names_of, names_below, IsProperName}, Paths.{join, joined, index_area}}
 use Rattle.cacache_core.proofs.JoinedNames.{joined_texts_name}
@@ -48,22 +48,7 @@ Once qs turns = EachTurn (Under qs) turns × NoneTwice turns
 once_more : (q : Names) (qs : List Names) (ns : List Name) (turn : Turn) (turns : List Turn) → names_of (step_path turn.move.step) ≡ Ok q → ApartAll q qs → Once (children q ns ++ qs) turns
     → Once (q ∷ qs) (turn ∷ turns)
 unfolding Under
-once_more q qs ns turn turns at apart h = (
-  ((q, at, inl ([], append-nil q)), each_weaker (Under (children q ns ++ qs)) (Under (q ∷ qs)) wider turns h.0),
-  (each_weaker (Under (children q ns ++ qs)) (λ later. later.move.step ≡ turn.move.step → ⊥) differs turns h.0, h.1),
-)
-  where
-    wider : (later : Turn) → Under (children q ns ++ qs) later → Under (q ∷ qs) later
-    wider later u = (u.0, u.1, elim (below_child q ns qs u.0 u.2) [ inl b ↦ inl (b.0 ∷ b.1, b.2) | inr b ↦ inr b ])
-
-    differs : (later : Turn) → Under (children q ns ++ qs) later → later.move.step ≡ turn.move.step → ⊥
-    differs later u same =
-        let path : ◌≡◌ {A = Result Names Fault} (Ok u.0) (Ok q) = sym u.1 ∙ ap (λ x. names_of (step_path x)) same ∙ at in
-        let here : u.0 ≡ q = cc in
-        elim (below_child q ns qs u.0 u.2) [
-          | inl b ↦ never_deeper q b.0 b.1 (b.2 ∙ here)
-          | inr b ↦ never_below q qs apart (subst (BelowSome qs) here b)
-        ]
+once_more q qs ns turn turns at apart h = search (rules, each_weaker, children, below_child, never_deeper, never_below)
 
 -- the tasks that a folder brings are at its names
 child_tasks : (level : ℕ) (p : List ℕ) (q : Names) (ns : List Name) → ((n : Name) → IsProperName n.name → names_of (join p n.name) ≡ Ok (q ++ n.name ∷ [])) → AreProperNames ns
@@ -147,10 +132,7 @@ module _ (s : Setup) where
     misses fault h = gives (failed fault ∷ []) (pick (λ st. Rest st turns) w.clears (fails fault) (give w (failed fault ∷ []) (walk_on todo)) e h)
 
     reads : (a : Result (List ℕ) Refusal) → Rest (go_on a (unread_bucket w todo) (listed w todo)) turns → Once qs turns
-    reads (Ok bytes) h = gives (items_in bytes) h
-    reads (Err (refusals.Fault faults.NotFound)) h = goes_on turns todo qs tasks at apart w e h
-    reads (Err (refusals.Fault fault)) h = misses fault h
-    reads (Err refusals.Memory) h = ends qs turns h
+    reads a h = grind (arith, gives, goes_on, misses, ends)
 
   -- what follows a folder once its names were given
   entered_once : (turns : List Turn) (todo : List Task) (q : Names) (qs : List Names) (p : List ℕ) (level : ℕ) (ns : List Name) (w : Walk) → w.clears ≡ false → Tasks s todo → TasksAt todo qs → ApartAll q qs → AllApart qs
@@ -202,9 +184,7 @@ module _ (s : Setup) where
   before st turn turns holds keyed is h = tt
 
   none_made : (st : State) → Rest st []
-  none_made (walking w v todo) = λ e visits tasks q qs named at apart. (tt, tt)
-  none_made (over reply) = refl
-  none_made st = tt
+  none_made st = grind (arith, common_steps)
 
   module _ (r : Reply) where
     runs_rest : (st : State) (turns : List Turn) → TurnsHold s turns → EachTurn (KeyedTurn s) turns → Runs st (made_in turns) r → Rest st turns

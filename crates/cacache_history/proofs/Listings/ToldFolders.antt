@@ -1,5 +1,5 @@
 -- What a listing of a folder says of the nodes in it.
-use Rattle.std.proofs.{Common.{◌≡◌, ◌⊎◌, inl, inr, ◌+◌, ◌&&◌, ℕ, Bool, true, false, cond, List, [], ◌∷◌, ◌++◌, Option, None, Some, Result, Ok, Err, length, take, refl, sym, ap, subst, ◌∙◌, arith, eqb-true, ap₂}, lemmas.{Bool.{and_parts}, List.{take_all, get_or_at}}}
+use Rattle.std.proofs.{lemmas.{Grind.{common_steps}, Bool.{and_parts}, List.{take_all, get_or_at}}, Common.{◌≡◌, ◌⊎◌, inl, inr, ◌+◌, ◌&&◌, ℕ, Bool, true, false, cond, List, [], ◌∷◌, ◌++◌, Option, None, Some, Result, Ok, Err, length, take, refl, sym, ap, subst, ◌∙◌, arith, eqb-true, ap₂}}
 use Rattle.std.specs.{Prelude.{T, slice_index_or, filter_map}, List.{cons_option}, FinMap.Entries.{below_all}, declared.cmp.Ordering.{Ordering, TheVariants.{Less}}, Ordering.{is_lt, is_eq, ordering_reverse}, Cmp.{eq_by_cmp_equiv}}
 use Rattle.std.specs.FinMap as map
 use Rattle.cacache_core.specs.{declared.errors.Fault.{Fault}, PathNames.{Names, names_of}}
@@ -16,12 +16,10 @@ use Rattle.cacache_history.proofs.Each.{Each, each_weaker}
 -- ---- the entries of a map
 
 pub both_parts : (a b : Bool) → T (a && b) → T a × T b
-both_parts true b h = (tt, h)
-both_parts false b h = absurd h
+both_parts a b h = grind (arith, common_steps)
 
 lt_apart : (r : Ordering) → T (is_lt r) → is_eq (ordering_reverse r) ≡ false
-lt_apart Less h = refl
-lt_apart r h = absurd h
+lt_apart r h = grind (arith, common_steps)
 
 apart : (x y : Names) → T (is_lt (names_cmp x y)) → same_path y x ≡ false
 apart x y h = ap is_eq (total.antisymm y x) ∙ lt_apart (names_cmp x y) h
@@ -69,8 +67,7 @@ child_is folder p e =
 told_at : (t : Tree) (folder : Names) (e : Names × Node) (b : Bool) (rest : List Name) → is_child folder e.0 ≡ b → StandsAt t e → Each (Told t folder) rest
     → Each (Told t folder) (cons_option (cond b (Some (record { name = slice_index_or e.0 (length folder) []; kind = kind_of e.1 })) None) rest)
 unfolding StandsAt
-told_at t folder e true rest is stands h = (record { node = e.1; stands = ap (look t) (child_is folder e.0 is) ∙ stands; kind = refl }, h)
-told_at t folder e false rest is stands h = h
+told_at t folder e b rest is stands h = grind (arith, child_is)
 
 told_all : (t : Tree) (folder : Names) (es : List (Names × Node)) → Each (StandsAt t) es → Each (Told t folder) (filter_map (child_of folder) es)
 told_all t folder [] h = tt
@@ -101,8 +98,7 @@ other_name folder name e x here lt child same =
 
 others_at : (folder : Names) (name : List ℕ) (e x : Names × Node) (b : Bool) (rest : List Name) → folder ++ name ∷ [] ≡ e.0 → T (is_lt (names_cmp e.0 x.0)) → is_child folder x.0 ≡ b
     → Each (λ m. name ≡ m.name → ⊥) rest → Each (λ m. name ≡ m.name → ⊥) (cons_option (cond b (Some (record { name = slice_index_or x.0 (length folder) []; kind = kind_of x.1 })) None) rest)
-others_at folder name e x true rest here lt child h = (other_name folder name e x here lt child, h)
-others_at folder name e x false rest here lt child h = h
+others_at folder name e x b rest here lt child h = grind (arith, other_name)
 
 others : (folder : Names) (name : List ℕ) (e : Names × Node) (es : List (Names × Node)) → folder ++ name ∷ [] ≡ e.0 → T (below_all names_cmp e.0 es)
     → Each (λ m. name ≡ m.name → ⊥) (filter_map (child_of folder) es)
@@ -147,14 +143,12 @@ listed_at folder name node e rest same is =
     (inl (ap₂ (λ (n : List ℕ) (k : Kind). record { name = n; kind = k }) own (ap kind_of (sym is))))
 
 skip_at : (n : Name) (o : Option Name) (rest : List Name) → IsAmong n rest → IsAmong n (cons_option o rest)
-skip_at n None rest h = h
-skip_at n (Some m) rest h = inr h
+skip_at n o rest h = grind (arith, common_steps)
 
 found_at : (folder : Names) (name : List ℕ) (node : Node) (e : Names × Node) (es : List (Names × Node)) (b : Bool) → same_path (folder ++ name ∷ []) e.0 ≡ b
     → (map.find names_cmp (folder ++ name ∷ []) es ≡ Some node → IsAmong (child_name folder name node) (filter_map (child_of folder) es))
     → cond b (Some e.1) (map.find names_cmp (folder ++ name ∷ []) es) ≡ Some node → IsAmong (child_name folder name node) (cons_option (child_of folder e) (filter_map (child_of folder) es))
-found_at folder name node e es true same more is = let own : e.1 ≡ node = cc in listed_at folder name node e (filter_map (child_of folder) es) same own
-found_at folder name node e es false same more is = skip_at (child_name folder name node) (child_of folder e) (filter_map (child_of folder) es) (more is)
+found_at folder name node e es b same more is = grind (arith, listed_at, skip_at, child_name)
 
 among_found : (folder : Names) (name : List ℕ) (node : Node) (es : List (Names × Node)) → map.find names_cmp (folder ++ name ∷ []) es ≡ Some node
     → IsAmong (child_name folder name node) (filter_map (child_of folder) es)

@@ -1,5 +1,5 @@
 -- What is at the place of a commit's move, while others remove, link and export nothing.
-use Rattle.std.proofs.Common.{◌≡◌, ℕ, List, [], ◌∷◌, ◌++◌, Some, Ok, sym, ap, subst, ◌∙◌, append_assoc}
+use Rattle.std.proofs.Common.{rules, ◌≡◌, ℕ, List, [], ◌∷◌, ◌++◌, Some, Ok, sym, ap, subst, ◌∙◌, append_assoc}
 use Rattle.cacache_core.specs.PathNames.{Names, names_of}
 use Rattle.cacache_store.specs.declared.store.step.Step.TheVariants as steps
 use Rattle.cacache_store.specs.declared.store.answer.Answer.TheVariants as answers
@@ -40,9 +40,7 @@ module _ {h : History} {folder path : Names} {before rest : List Record} {caller
 
   -- from there on all moves are quiet
   pub quiet_here : AreQuiet h.setup path (now_at h here) (own_record ∷ q.place.later)
-  quiet_here =
-      subst (λ w. AreQuiet h.setup path w (own_record ∷ q.place.later)) (sym (replay_more h.setup (initial h.setup) before q.place.between))
-      (quiet_later h.setup path (now_at h before) q.place.between (own_record ∷ q.place.later) (subst (AreQuiet h.setup path (now_at h before)) q.place.is q.quiet))
+  quiet_here = search (rules, replay_more, quiet_later)
 
   calm_here : AreCalm (Some folder) (moment_at h here) (own_move ∷ steps_of q.place.later)
   calm_here = subst (λ home. AreCalm home (moment_at h here) (own_move ∷ steps_of q.place.later)) q.home_is (calm_at h q.legal here (own_record ∷ q.place.later) split path quiet_here)

@@ -1,5 +1,5 @@
 -- Calls that are on their way have numbers that differ, and so have their temporary files.
-use Rattle.std.proofs.{Common.{◌≡◌, ◌<◌, ◌≤◌, ◌^◌, ◌+◌, ◌==◌, ℕ, Bool, true, false, cond, List, [], ◌∷◌, ◌++◌, Option, None, Some, Ok, option_map, refl, sym, ap, subst, ◌∙◌, arith, eqb-true}, lemmas.{List.{append_cancel_left}, Bool.{false_from_ne_true}}}
+use Rattle.std.proofs.{lemmas.{Grind.{common_steps}, List.{append_cancel_left}, Bool.{false_from_ne_true}}, Common.{rules, ◌≡◌, ◌<◌, ◌≤◌, ◌^◌, ◌+◌, ◌==◌, ℕ, Bool, true, false, cond, List, [], ◌∷◌, ◌++◌, Option, None, Some, Ok, option_map, refl, sym, ap, subst, ◌∙◌, arith, eqb-true}}
 use Rattle.cacache_core.specs.{PathNames.{Names, home_of, names_below, names_of}, Paths.{joined, temp_names}}
 use Rattle.cacache_core.proofs.{JoinedNames.{joined_texts_name}, PathTexts.{paths_differ}, ProperNames.{names_are_proper}}
 use Rattle.cacache_disk.{specs.{declared.luck.Luck.{Luck}, Tree.{Tree, same_path}}, proofs.Maps.{same_path-true}}
@@ -19,17 +19,12 @@ same_number cache folder n m few less e =
 
 apart_below : (cache : List ℕ) (home : Option Names) (n m : ℕ) (q : Names) → n < 2 ^ 64 → m < 2 ^ 64 → (n ≡ m → ⊥) → names_below home (temp_names n) ≡ Ok q
     → is_at (names_below home (temp_names m)) q ≡ false
-apart_below cache None n m q few less apart e = absurd cc
-apart_below cache (Some folder) n m q few less apart e =
-    let here : folder ++ temp_names n ≡ q = cc in
-    false_from_ne_true (same_path q (folder ++ temp_names m)) (λ s. apart (same_number cache folder n m few less (here ∙ same_path-true q (folder ++ temp_names m) s)))
+apart_below cache home n m q few less apart e = grind (arith, same_number, same_path-true)
 
 -- those of two numbers name two paths
 pub temps_apart : (cache : List ℕ) (n m : ℕ) (p r : List ℕ) (q : Names) → n < 2 ^ 64 → m < 2 ^ 64 → (n ≡ m → ⊥) → p ≡ temp_path cache n → r ≡ temp_path cache m
     → names_of p ≡ Ok q → is_at (names_of r) q ≡ false
-temps_apart cache n m p r q few less apart from to e =
-    ap (λ x. is_at x q) (ap names_of to ∙ temps_named cache m)
-    ∙ apart_below cache (home_of cache) n m q few less apart (sym (ap names_of from ∙ temps_named cache n) ∙ e)
+temps_apart cache n m p r q few less apart from to e = search (rules, temps_named, apart_below)
 
 -- ---- numbers
 
@@ -57,73 +52,47 @@ Keeps None old = Unit {0}
 Keeps (Some n) old = old ≡ Some n
 
 keeps_below : (begun : ℕ) (new old : Option ℕ) → Keeps new old → IsBelow begun old → IsBelow begun new
-keeps_below begun None old keeps h = tt
-keeps_below begun (Some n) old keeps h = subst (IsBelow begun) keeps h
+keeps_below begun new old keeps h = grind (arith, common_steps)
 
 keeps_apart : (new old other before : Option ℕ) → Keeps new old → Keeps other before → AreApart old before → AreApart new other
-keeps_apart None old other before keeps same h = tt
-keeps_apart (Some n) old None before keeps same h = tt
-keeps_apart (Some n) old (Some m) before keeps same h = subst (λ o. AreApart (Some n) o) same (subst (λ o. AreApart o before) keeps h)
+keeps_apart new old other before keeps same h = grind (arith, common_steps)
 
 kept_numbered : (w new : Now) → new.begun ≡ w.begun → ((k : ℕ) → Keeps (number_of (new.calls k)) (number_of (w.calls k))) → Numbered w → Numbered new
-kept_numbered w new same keeps h = record {
-  below = λ k. subst (λ n. IsBelow n (number_of (new.calls k))) (sym same) (keeps_below w.begun (number_of (new.calls k)) (number_of (w.calls k)) (keeps k) (h.below k));
-  apart = λ j k differ. keeps_apart (number_of (new.calls j)) (number_of (w.calls j)) (number_of (new.calls k)) (number_of (w.calls k)) (keeps j) (keeps k) (h.apart j k differ);
-}
+kept_numbered w new same keeps h = search (rules, keeps_below, keeps_apart)
 
 keeps_self : (o : Option ℕ) → Keeps o o
-keeps_self None = tt
-keeps_self (Some n) = refl
+keeps_self o = grind (arith, common_steps)
 
 set_keeps : (calls : ℕ → Option Call) (caller k : ℕ) (b : Bool) (call : Option Call) → (k == caller) ≡ b → Keeps (number_of call) (number_of (calls caller))
     → Keeps (number_of (cond b call (calls k))) (number_of (calls k))
-set_keeps calls caller k true call is keeps = subst (λ j. Keeps (number_of call) (number_of (calls j))) (sym (eqb-true k caller is)) keeps
-set_keeps calls caller k false call is keeps = keeps_self (number_of (calls k))
+set_keeps calls caller k b call is keeps = grind (arith, keeps_self)
 
 moved_number : (t : Tree) (luck : Luck) (made : Option Made) (reply : Option Reply) (o : Option Call) → Keeps (number_of (unless_over reply (option_map (call_after t luck made) o))) (number_of o)
-moved_number t luck made (Some reply) o = tt
-moved_number t luck made None None = tt
-moved_number t luck None None (Some call) = refl
-moved_number t luck (Some made) None (Some call) = refl
+moved_number t luck made reply o = grind (arith, common_steps)
 
 -- ---- a call that begins
 
 more_below : (begun : ℕ) (o : Option ℕ) → IsBelow begun o → IsBelow (begun + 1) o
-more_below begun None h = tt
-more_below begun (Some n) h = omega (arith, h)
+more_below begun o h = grind (arith, common_steps)
 
 apart_new : (begun : ℕ) (o : Option ℕ) → IsBelow begun o → AreApart (Some begun) o
-apart_new begun None h = tt
-apart_new begun (Some n) h = λ e. omega (arith, h, e)
+apart_new begun o h = grind (arith, common_steps)
 
 new_apart : (begun : ℕ) (o : Option ℕ) → IsBelow begun o → AreApart o (Some begun)
-new_apart begun None h = tt
-new_apart begun (Some n) h = λ e. omega (arith, h, e)
+new_apart begun o h = grind (arith, common_steps)
 
 module _ (w : Now) (caller : ℕ) (call : Call) (is : call.number ≡ w.begun) (h : Numbered w) where
   began_below : (k : ℕ) (b : Bool) → IsBelow (w.begun + 1) (number_of (cond b (Some call) (w.calls k)))
-  began_below k true = omega (arith, is)
-  began_below k false = more_below w.begun (number_of (w.calls k)) (h.below k)
+  began_below k b = grind (arith, more_below)
 
   began_apart : (j k : ℕ) (a b : Bool) → (j ≡ k → ⊥) → (j == caller) ≡ a → (k == caller) ≡ b
       → AreApart (number_of (cond a (Some call) (w.calls j))) (number_of (cond b (Some call) (w.calls k)))
-  began_apart j k true true differ e f = absurd (differ (eqb-true j caller e ∙ sym (eqb-true k caller f)))
-  began_apart j k true false differ e f = subst (λ n. AreApart (Some n) (number_of (w.calls k))) (sym is) (apart_new w.begun (number_of (w.calls k)) (h.below k))
-  began_apart j k false true differ e f = subst (λ n. AreApart (number_of (w.calls j)) (Some n)) (sym is) (new_apart w.begun (number_of (w.calls j)) (h.below j))
-  began_apart j k false false differ e f = h.apart j k differ
+  began_apart j k a b differ e f = grind (arith, apart_new, new_apart)
 
 -- ---- places of a history
 
 pub next_numbered : (s : Setup) (w : Now) (r : Record) → Numbered w → Numbered (now_after s w r)
-next_numbered s w (Began caller command) h = record {
-  below = λ k. began_below w caller (new_call s w.begun command) refl h k (k == caller);
-  apart = λ j k differ. began_apart w caller (new_call s w.begun command) refl h j k (j == caller) (k == caller) differ refl refl;
-}
-next_numbered s w (Moved caller luck made reply) h =
-    kept_numbered w (now_after s w (Moved caller luck made reply)) refl
-    (λ k. set_keeps w.calls caller k (k == caller) _ refl (moved_number w.tree luck made reply (w.calls caller))) h
-next_numbered s w (Stopped caller) h =
-    kept_numbered w (now_after s w (Stopped caller)) refl (λ k. set_keeps w.calls caller k (k == caller) None refl tt) h
+next_numbered s w r h = grind (arith, began_below, began_apart, kept_numbered, set_keeps, moved_number)
 
 -- no fewer calls began after more records
 pub more_begun : (s : Setup) (w : Now) (records : List Record) → w.begun ≤ (replayed s w records).begun

@@ -1,5 +1,5 @@
 -- What a durable insertion that answered made, in order: its line, and the syncs of its bucket and of that one's folders.
-use Rattle.std.proofs.{Common.{◌≡◌, inl, inr, ◌≤◌, ℕ, Bool, true, false, cond, nat_le, List, [], ◌∷◌, ◌++◌, Option, None, Some, Result, Ok, Err, length, refl, sym, ap, subst, ◌∙◌, append_assoc, arith}, lemmas.Bool.{leb-true}}
+use Rattle.std.proofs.{lemmas.{Grind.{common_steps}, Bool.{leb-true}}, Common.{◌≡◌, inl, inr, ◌≤◌, ℕ, Bool, true, false, cond, nat_le, List, [], ◌∷◌, ◌++◌, Option, None, Some, Result, Ok, Err, length, refl, sym, ap, subst, ◌∙◌, append_assoc, arith}}
 use Rattle.cacache_core.specs.declared.errors.Fault.TheVariants as faults
 use Rattle.cacache_core.specs.declared.{errors.{SerdeCause.{SerdeCause}, Error.{Error, TheVariants.{IoError, SerdeError, OutOfMemory}}}, integrity.digest.Hash.{Hash}}
 use Rattle.cacache_store.specs.declared.store.answer.Answer.TheVariants as answers
@@ -27,16 +27,13 @@ dirs_right (p ∷ folders) front more h = (any_right (λ (m : Made). m ≡ (step
 -- ---- answers
 
 pub done_is : (a : PlainAnswer) (u : Unit {0}) → done_in a ≡ Ok u → a ≡ answers.Done
-done_is answers.Done u e = refl
-done_is a u e = absurd cc
+done_is a u e = grind (arith, common_steps)
 
 pub there_is : (a : PlainAnswer) (b : Bool) → there_in a ≡ Ok b → a ≡ answers.There b
-there_is (answers.There there) b e = let same : there ≡ b = cc in ap answers.There same
-there_is a b e = absurd cc
+there_is a b e = grind (arith, common_steps)
 
 took_is : (a : PlainAnswer) (n : ℕ) → taken_in a ≡ Ok n → a ≡ answers.Took n
-took_is (answers.Took count) n e = let same : count ≡ n = cc in ap answers.Took same
-took_is a n e = absurd cc
+took_is a n e = grind (arith, common_steps)
 
 pub made_is : (m : Made) (step : PlainStep) (answer : PlainAnswer) → Some step ≡ Some m.0 → m.1 ≡ answer → m ≡ (step, answer)
 made_is (a, b) step answer e f = let same : a ≡ step = cc in rw (same, f) refl

@@ -1,5 +1,5 @@
 -- Syncs that are done: what they sync, and what was there.
-use Rattle.std.{proofs.Common.{◌≡◌, inl, inr, ℕ, List, [], ◌∷◌, Option, None, Some, Ok, Err, refl, sym, ap, subst, ◌∙◌, ◌==◌, length}, specs.Prelude.{Result}}
+use Rattle.std.{proofs.Common.{arith, ◌≡◌, inl, inr, ℕ, List, [], ◌∷◌, Option, None, Some, Ok, Err, refl, sym, ap, subst, ◌∙◌, ◌==◌, length}, specs.Prelude.{Result}}
 use Rattle.cacache_core.specs.{declared.errors.Fault.{Fault, TheVariants.{IsADirectory}}, PathNames.{Names, home_of, is_bad, names_of}}
 use Rattle.cacache_store.specs.declared.store.step.Step.TheVariants as steps
 use Rattle.cacache_store.specs.declared.store.answer.Answer.TheVariants as answers
@@ -75,8 +75,7 @@ module _ (t : Tree) (p : List ℕ) (path : Names) (is : names_of p ≡ Ok path) 
   no_file bytes e = no_bytes (way_fault t [] path) bytes (rw is at e)
 
   unless_done : (r : Result (List ℕ) Fault) → file_at t p IsADirectory ≡ r → (unless r t (λ bytes. (answers.Done, t))).0 ≡ answers.Done → ⊥
-  unless_done (Ok bytes) e done = no_file bytes e
-  unless_done (Err fault) e done = absurd cc
+  unless_done r e done = grind (arith, no_file)
 
   pub none_synced : (luck : Luck) → (apply t (steps.SyncFile p) luck).0 ≡ answers.Done → ⊥
   none_synced luck =

@@ -1,5 +1,5 @@
 -- A content that a durable put stored outlasts a loss, once its folders are synced, and so does a link that it found there.
-use Rattle.std.{proofs.Common.{◌≡◌, inl, inr, ℕ, true, List, [], ◌∷◌, ◌++◌, Option, None, Some, Ok, refl, sym, ap, subst, ◌∙◌, arith}, specs.Prelude.{IfOk}}
+use Rattle.std.{proofs.Common.{rules, ◌≡◌, inl, inr, ℕ, true, List, [], ◌∷◌, ◌++◌, Option, None, Some, Ok, refl, sym, ap, subst, ◌∙◌, arith}, specs.Prelude.{IfOk}}
 use Rattle.cacache_core.specs.{declared.integrity.digest.Hash.{Hash}, Integrity.{IsHash}, PathNames.{Names, names_below, names_of}, Paths.{content_names, folders_to, joined}}
 use Rattle.cacache_core.proofs.{JoinedNames.{joined_texts_name}, ProperNames.{names_are_proper}}
 use Rattle.cacache_store.specs.{declared.store.plain.PlainTemp.{PlainTemp}, Plain.{PlainAnswer}}
@@ -89,9 +89,7 @@ module _ {h : History} {folder : Names} {before rest : List Record} {caller : �
 
   -- what a place holds at the address is what is at the path
   stands_at : (records : List Record) → (value_at h records).contents a ≡ blob_in (look (moment_at h records).tree path)
-  stands_at records =
-      ap (λ home. blob_in (node_below home (now_at h records).tree (content_names a))) q.home_is
-      ∙ ap (λ t. blob_in (look t path)) (sym (tree_at h records))
+  stands_at records = search (rules, tree_at)
 
   -- a link that is there when the put makes its move was there before
   link_before : (target : List ℕ) → look now.tree path ≡ Some (Link target) → (value_at h before).contents a ≡ Some (AtLink target)

@@ -1,5 +1,5 @@
 -- An entry that a durable commit appended as a whole line outlasts a loss, once its bucket is synced.
-use Rattle.std.proofs.{Common.{◌≡◌, ℕ, true, List, [], ◌∷◌, ◌++◌, Option, None, Some, Ok, fold, length, refl, sym, ap, subst, ◌∙◌, append_assoc, arith}, lemmas.List.Sums.{fold-append}}
+use Rattle.std.proofs.{Common.{rules, ◌≡◌, ℕ, true, List, [], ◌∷◌, ◌++◌, Option, None, Some, Ok, fold, length, refl, sym, ap, subst, ◌∙◌, append_assoc, arith}, lemmas.List.Sums.{fold-append}}
 use Rattle.std.specs.Prelude.{unwrap_or}
 use Rattle.sha1.specs.Sha1.{sha1}
 use Rattle.cacache_core.specs.{PathNames.{Names, names_below, names_of}, Paths.{bucket_names_of}}
@@ -23,8 +23,7 @@ whole_append cache entry =
 
 -- the entries of a bucket are those of its bytes
 bucket_bytes : (here : Option Node) → entries_of (bytes_of here) ≡ list_of (bucket_in here)
-bucket_bytes (Some (File bytes)) = refl
-bucket_bytes node = empty_holds_nothing
+bucket_bytes here = grind (arith, empty_holds_nothing)
 
 -- where the bucket of a key lies
 pub bucket_named : (key : List ℕ) (h : History) (folder : Names) → home h.setup ≡ Some folder → names_of (bucket_path h.setup.cache key) ≡ Ok (folder ++ bucket_names_of (sha1 key))
@@ -36,9 +35,7 @@ bucket_named key h folder home_is =
 -- what a bucket holds at a place of a history
 pub bucket_is : (h : History) (folder : Names) → home h.setup ≡ Some folder → (at : List Record) (digest : List ℕ)
     → entries_of (bytes_of (look (moment_at h at).tree (folder ++ bucket_names_of digest))) ≡ bucket_at h at digest
-bucket_is h folder home_is at digest =
-    bucket_bytes (look (moment_at h at).tree (folder ++ bucket_names_of digest)) ∙ ap (λ t. list_of (bucket_in (look t (folder ++ bucket_names_of digest)))) (tree_at h at)
-    ∙ ap (λ home. list_of (bucket_in (node_below home (now_at h at).tree (bucket_names_of digest)))) (sym home_is)
+bucket_is h folder home_is at digest = search (rules, bucket_bytes, tree_at)
 
 -- the line of an entry was taken whole, and then its bucket was synced with its folders, while others remove, link
 -- and export nothing

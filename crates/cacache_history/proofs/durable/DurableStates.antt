@@ -1,5 +1,5 @@
 -- The states of a durable put: it moves its temporary file right after the sync of it.
-use Rattle.std.proofs.Common.{◌≡◌, ◌⊎◌, inl, inr, ◌==◌, ℕ, true, false, List, [], ◌∷◌, Option, Some, Ok, length, drop, nat_le, sym, subst, ◌∙◌}
+use Rattle.std.proofs.Common.{arith, rules, ◌≡◌, ◌⊎◌, inl, inr, ◌==◌, ℕ, true, false, List, [], ◌∷◌, Option, Some, Ok, length, drop, nat_le, sym, subst, ◌∙◌}
 use Rattle.cacache_core.specs.declared.errors.Fault.TheVariants as faults
 use Rattle.cacache_store.specs.{declared.store.plain.PlainTemp.{PlainTemp}, Plain.{PlainStep, PlainAnswer}}
 use Rattle.cacache_store.specs.declared.store.step.Step.TheVariants as steps
@@ -28,12 +28,10 @@ abbrev pub IsDurable : (PlainTemp → Type 0) → State → Type 0
 IsDurable Ready s = Waits s ⊎ Moves Ready s
 
 moved_waits : (c : Commit) (file : PlainTemp) → c.options.durable ≡ true → Waits (move_in c file)
-moved_waits c file durable =
-    cond_leads Waits c.options.durable (syncing c file) (persisting c file) (λ _. tt) (λ no. let differ : true ≡ false = sym durable ∙ no in absurd cc)
+moved_waits c file durable = search (rules, cond_leads)
 
 rests : (c : Commit) (file : PlainTemp) (rest : List ℕ) → c.options.durable ≡ true → Waits (write_rest c file rest)
-rests c file [] durable = moved_waits c file durable
-rests c file (b ∷ bs) durable = durable
+rests c file rest durable = grind (arith, moved_waits)
 
 places_wait : (c : Commit) → Waits (placed c)
 places_wait c = places Waits (λ reply. tt) (λ folder i. tt) c
@@ -48,9 +46,7 @@ module _ (Ready Later : PlainTemp → Type 0) (step : PlainStep) (a : PlainAnswe
   waits_on (doing (sync_file p) s) h w = inl (go_on_leads Waits (done_in a) fails (λ _. s) tt (λ fault. tt) (λ x e. h))
   waits_on (doing (sync_dir p) s) h w = inl (go_on_leads Waits (done_in a) fails (λ _. s) tt (λ fault. tt) (λ x e. h))
   waits_on (creating number c rest) h w = inl (go_on_leads Waits (temp_in a) fails (λ file. write_rest c file rest) tt (λ fault. tt) (λ file e. rests c file rest h))
-  waits_on (writing c file rest) h w =
-      inl (go_on_leads Waits (written_in a) fails (after_write c rest) tt (λ fault. tt)
-      (λ x e. cond_leads Waits (x.1 == 0) (fails faults.WriteZero) (write_rest c x.0 (drop x.1 rest)) (λ _. tt) (λ _. rests c x.0 (drop x.1 rest) h)))
+  waits_on (writing c file rest) h w = search (rules, go_on_leads, cond_leads, rests)
   waits_on (syncing c file) h w =
       go_on_leads (IsDurable Later) (synced_in a) fails (persisting c) (inl tt) (λ fault. inl tt) (λ new e. inr (synced file new w e))
   waits_on (confirming c fault) h w =
@@ -63,8 +59,7 @@ module _ (Ready Later : PlainTemp → Type 0) (step : PlainStep) (a : PlainAnswe
   waits_on s h w = absurd h
 
   moves_on : (s : State) → Moves Ready s → IsDurable Later (after s a)
-  moves_on (persisting c file) h = inl (go_on_leads Waits (done_in a) (confirming c) (λ _. secured c) tt (λ fault. tt) (λ x e. secured_waits c))
-  moves_on s h = absurd h
+  moves_on s h = grind (arith, go_on_leads, secured_waits)
 
   -- a step leads to such a state again
   pub stays_durable : (s : State) → IsDurable Ready s → wants s ≡ Some step → IsDurable Later (after s a)
@@ -77,23 +72,13 @@ MovesNone (steps.Persist f to) = ⊥
 MovesNone step = Unit {0}
 
 waits_none : (s : State) (step : PlainStep) → Waits s → wants s ≡ Some step → MovesNone step
-waits_none (doing (make_folder p) s) step h w = some_is MovesNone (steps.MakeDirs p) step w tt
-waits_none (doing (sync_file p) s) step h w = some_is MovesNone (steps.SyncFile p) step w tt
-waits_none (doing (sync_dir p) s) step h w = some_is MovesNone (steps.SyncDir p) step w tt
-waits_none (creating number c rest) step h w = some_is MovesNone (steps.CreateTemp (temp_path c.cache number)) step w tt
-waits_none (writing c file rest) step h w = some_is MovesNone (steps.Write file rest) step w tt
-waits_none (syncing c file) step h w = some_is MovesNone (steps.SyncTemp file) step w tt
-waits_none (confirming c fault) step h w = some_is MovesNone (steps.Exists (content_path c.cache c.computed)) step w tt
-waits_none (appending i) step h w = some_is MovesNone (steps.Append (bucket_path i.cache i.entry.key) (bucket_line i)) step w tt
-waits_none (over reply) step h w = absurd cc
-waits_none s step h w = absurd h
+waits_none s step h w = grind (arith, some_is)
 
 same_file : (Ready : PlainTemp → Type 0) (file f : PlainTemp) (path to : List ℕ) → ◌≡◌ {A = Option PlainStep} (Some (steps.Persist file path)) (Some (steps.Persist f to)) → Ready file → Ready f
 same_file Ready file f path to e h = let same : file ≡ f = cc in subst Ready same h
 
 ready_moves : (Ready : PlainTemp → Type 0) (s : State) (f : PlainTemp) (to : List ℕ) → Moves Ready s → wants s ≡ Some (steps.Persist f to) → Ready f
-ready_moves Ready (persisting c file) f to h w = same_file Ready file f (content_path c.cache c.computed) to w h
-ready_moves Ready s f to h w = absurd h
+ready_moves Ready s f to h w = grind (arith, same_file)
 
 -- if such a state wants to move a file, this holds of it
 pub ready_file : (Ready : PlainTemp → Type 0) (s : State) (f : PlainTemp) (to : List ℕ) → IsDurable Ready s → wants s ≡ Some (steps.Persist f to) → Ready f

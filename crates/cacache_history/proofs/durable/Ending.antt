@@ -1,5 +1,5 @@
 -- The moves of a call until it ends: they are a run of it, and each has its place in the records.
-use Rattle.std.proofs.Common.{◌≡◌, ◌⊎◌, inl, inr, ◌==◌, ℕ, Bool, true, false, cond, List, [], ◌∷◌, ◌++◌, Option, None, Some, option_map, refl, sym, ap, subst, ◌∙◌, eqb-true, eq-eqb}
+use Rattle.std.proofs.{Common.{arith, rules, ◌≡◌, ◌⊎◌, inl, inr, ◌==◌, ℕ, Bool, true, false, cond, List, [], ◌∷◌, ◌++◌, Option, None, Some, option_map, refl, sym, ap, subst, ◌∙◌, eqb-true, eq-eqb}, lemmas.Grind.{common_steps}}
 use Rattle.cacache_disk.specs.{declared.luck.Luck.{Luck}, Tree.{Tree}}
 use Rattle.cacache_calls.specs.{declared.reply.Reply.{Reply}, State.{State, over}, Runs.{Moves, Runs, plain_reply}}
 use Rattle.cacache_value.specs.Traces.{Move}
@@ -37,16 +37,11 @@ HasStep m (move ∷ moves) = ((move.step ≡ m.0) × (move.answer ≡ m.1)) ⊎ 
 
 module _ (m : Made) where
   until_has : (told : Option Reply) (moves : Moves) → Has m (until_over told moves) → Has m moves
-  until_has None moves h = h
-  until_has (Some reply) moves h = absurd h
+  until_has told moves h = grind (arith, common_steps)
 
   one_has : (other : ℕ) (luck : Luck) (made : Option Made) (told : Option Reply) (b : Bool) (records : List Record) (moves : Moves) → (Has m moves → HasStep m (steps_of records))
       → Has m (cond b (with_made made (until_over told moves)) moves) → HasStep m (steps_of (Moved other luck made told ∷ records))
-  one_has other luck None told true records moves more h = more (until_has told moves h)
-  one_has other luck (Some made) told true records moves more (inl e) = inl (ap (λ (x : Made). x.0) e, ap (λ (x : Made). x.1) e)
-  one_has other luck (Some made) told true records moves more (inr h) = inr (more (until_has told moves h))
-  one_has other luck None told false records moves more h = more h
-  one_has other luck (Some made) told false records moves more h = inr (more h)
+  one_has other luck made told b records moves more h = grind (arith, until_has)
 
   -- each of the caller's moves is a step of the records
   own_has : (caller : ℕ) (records : List Record) → Has m (own_moves caller records) → HasStep m (steps_of records)
@@ -60,11 +55,7 @@ module _ (m : Made) where
 module _ (caller other : ℕ) where
   -- another caller's record leaves it
   other_stays : (new : Option Call) (calls : ℕ → Option Call) → (other == caller) ≡ false → set_call other new calls caller ≡ calls caller
-  other_stays new calls e = by (caller == other) refl
-    where
-      by : (b : Bool) → (caller == other) ≡ b → cond b new (calls caller) ≡ calls caller
-      by true is = let same : other ≡ caller = sym (eqb-true caller other is) in let no : true ≡ false = sym (eq-eqb other caller same) ∙ e in absurd cc
-      by false is = refl
+  other_stays new calls e = search rules
 
   -- its own sets it
   own_set : (new : Option Call) (calls : ℕ → Option Call) → (other == caller) ≡ true → set_call other new calls caller ≡ new
@@ -72,11 +63,7 @@ module _ (caller other : ℕ) where
 
   -- a caller without a call is another one
   is_other : (calls : ℕ → Option Call) (call : Call) → calls other ≡ None → calls caller ≡ Some call → (other == caller) ≡ false
-  is_other calls call none is = by (other == caller) refl
-    where
-      by : (b : Bool) → (other == caller) ≡ b → b ≡ false
-      by true e = let no : None ≡ Some call = sym none ∙ ap calls (eqb-true other caller e) ∙ is in absurd cc
-      by false e = refl
+  is_other calls call none is = search rules
 
   -- its own record moves its call
   is_own : (calls : ℕ → Option Call) (call found : Call) → calls other ≡ Some found → calls caller ≡ Some call → (other == caller) ≡ true → found ≡ call
@@ -85,25 +72,20 @@ module _ (caller other : ℕ) where
   -- and if the call isn't over it is then the moved one
   now_moved : (w : Now) (luck : Luck) (made : Option Made) (call : Call) → (other == caller) ≡ true → w.calls caller ≡ Some call
       → set_call other (option_map (call_after w.tree luck made) (w.calls other)) w.calls caller ≡ Some (call_after w.tree luck made call)
-  now_moved w luck made call e is =
-      own_set (option_map (call_after w.tree luck made) (w.calls other)) w.calls e
-      ∙ ap (option_map (call_after w.tree luck made)) (ap w.calls (eqb-true other caller e) ∙ is)
+  now_moved w luck made call e is = search (rules, own_set)
 
 -- ---- its moves are a run
 
 module _ (s : Setup) (caller : ℕ) (reply : Reply) where
   made_runs : (t : Tree) (luck : Luck) (made : Option Made) (told : Option Reply) (call : Call) (moves : Moves) → MayMove t call.state luck made told
       → Runs (call_after t luck made call).state moves (plain_reply reply) → Runs call.state (with_made made moves) (plain_reply reply)
-  made_runs t luck None told call moves may run = run
-  made_runs t luck (Some made) told call moves may run = (may.0, may.2, run)
+  made_runs t luck made told call moves may run = grind (arith, common_steps)
 
   move_ends : (t : Tree) (luck : Luck) (made : Option Made) (told : Option Reply) (call : Call) → MayMove t call.state luck made told → Ends (call_after t luck made call).state told
-  move_ends t luck None told call may = may.1
-  move_ends t luck (Some made) told call may = may.3
+  move_ends t luck made told call may = grind (arith, common_steps)
 
   ended_runs : (state : State) (told : Reply) → Ends state (Some told) → told ≡ reply → Runs state [] (plain_reply reply)
-  ended_runs state told (inl e) same = inl (e ∙ ap (λ r. over (plain_reply r)) same)
-  ended_runs state told (inr e) same = inr (ap plain_reply (sym same ∙ e))
+  ended_runs state told h same = grind (arith, common_steps)
 
   moved_runs : (w : Now) (other : ℕ) (luck : Luck) (made : Option Made) (told : Option Reply) (records : List Record) (call : Call) (b : Bool) → (other == caller) ≡ b
       → MayCome s w (Moved other luck made told) → w.calls caller ≡ Some call → EndsHere b told reply (CallEndsWith caller reply records)
@@ -191,12 +173,7 @@ module _ (s : Setup) (caller : ℕ) (reply : Reply) where
       → ((later : Call) (front : Moves) → (now_after s w (Moved other luck made told)).calls caller ≡ Some later → CallEndsWith caller reply records → own_moves caller records ≡ front ++ move ∷ more
       → PlaceOf (now_after s w (Moved other luck made told)) records later move more)
       → cond b (with_made made (until_over told (own_moves caller records))) (own_moves caller records) ≡ front ++ move ∷ more → PlaceOf w (Moved other luck made told ∷ records) call move more
-  place_by w other luck made told records call front move more true same is ends later e =
-      subst
-      (λ k. ((later : Call) (front : Moves) → (now_after s w (Moved k luck made told)).calls caller ≡ Some later → CallEndsWith caller reply records → own_moves caller records ≡ front ++ move ∷ more
-      → PlaceOf (now_after s w (Moved k luck made told)) records later move more)
-      → with_made made (until_over told (own_moves caller records)) ≡ front ++ move ∷ more → PlaceOf w (Moved k luck made told ∷ records) call move more)
-      (sym (eqb-true other caller same)) (place_moved w luck made told records call front move more is ends) later e
+  place_by w other luck made told records call front move more true same is ends later e = search (rules, place_moved)
   place_by w other luck made told records call front move more false same is ends later e =
       place_after w (Moved other luck made told) records call call move more refl (later call front (other_stays caller other _ w.calls same ∙ is) ends e)
 

@@ -1,5 +1,5 @@
 -- A bucket through calm moves: it grows by parts of lines, and a loss leaves it as far as its file is fixed.
-use Rattle.std.proofs.Common.{◌≡◌, ◌≤◌, inl, inr, ℕ, Bool, true, false, cond, List, [], ◌∷◌, ◌++◌, Option, None, Some, length, take, refl, sym, ap, subst, ◌∙◌, arith, append_assoc, append-nil, length-append}
+use Rattle.std.proofs.{lemmas.Grind.{common_steps}, Common.{rules, ◌≡◌, ◌≤◌, inl, inr, ℕ, Bool, true, false, cond, List, [], ◌∷◌, ◌++◌, Option, None, Some, length, take, refl, sym, ap, subst, ◌∙◌, arith, append_assoc, append-nil, length-append}}
 use Rattle.std.specs.Prelude.{bytes_eq}
 use Rattle.cacache_core.specs.PathNames.{Names, names_of}
 use Rattle.cacache_store.specs.{declared.store.step.Step.TheVariants.{CreateTemp, Write, Persist, Append, SyncTemp, SyncFile, SyncDir}, Plain.{PlainStep, PlainAnswer}}
@@ -35,37 +35,23 @@ module _ (home : Option Names) (c : Names) (at : path_kind home c ≡ Bucket) wh
     unchanged : (new : Tree) (later : Fixed) (appends : Bool) → look new c ≡ Some (File b)
         → ((size : ℕ) → size ≤ length b → Kept size fixed → Kept size later) → (fixed.names c ≡ None → later.names c ≡ None) → (IsWhole fixed → IsWhole later)
         → Grows b fixed new later appends
-    unchanged new later appends stays kept names whole = record {
-      part = [];
-      is_part = inl refl;
-      stands = stays ∙ ap (λ l. Some (File l)) (sym (append-nil b));
-      kept = kept;
-      names = names;
-      still = λ none. (refl, whole);
-    }
+    unchanged new later appends stays kept names whole = search rules
 
     same_fixed : (new : Tree) (later : Fixed) (appends : Bool) → look new c ≡ Some (File b) → later.files c ≡ fixed.files c → later.names c ≡ fixed.names c
         → Grows b fixed new later appends
-    same_fixed new later appends stays files names =
-        unchanged new later appends stays (λ size short k. subst (λ (f : Fixing). size ≤ f.kept) (sym files) k) (λ e. names ∙ e) (λ w. ap (λ (f : Fixing). f.whole) files ∙ w)
+    same_fixed new later appends stays files names = search (rules, unchanged)
 
     missed : (step : PlainStep) (luck : Luck) (answer : PlainAnswer) (appends : Bool) → is_calm step ≡ true → Proper home step → Misses c step
         → Grows b fixed (apply t step luck).1 (changed fixed t (apply t step luck).1 step answer) appends
-    missed step luck answer appends calm is misses =
-        same_fixed (apply t step luck).1 (changed fixed t (apply t step luck).1 step answer) appends
-        (keeps home t placed c (Some (File b)) there made step luck calm is misses)
-        (files_keep home t placed c (Some (File b)) there made fixed step luck answer calm is misses)
-        (names_kept home t placed c (Some (File b)) there made fixed step luck answer calm is misses)
+    missed step luck answer appends calm is misses = search (rules, same_fixed, keeps, made, files_keep, names_kept)
 
     -- ---- appends
 
     lengthened : (size : ℕ) (same : Bool) (f : Fixing) → size ≤ f.kept → size ≤ (refixed false same true f).kept
-    lengthened size true f k = k
-    lengthened size false f k = k
+    lengthened size same f k = grind (arith, common_steps)
 
     appended_to : (b : Bool) → b ≡ true → b ≡ false → ⊥
-    appended_to true here none = cc
-    appended_to false here none = cc
+    appended_to b here none = grind (arith, common_steps)
 
     behind : (p line : List ℕ) (answer : PlainAnswer) (names : Names) (n : ℕ) (appends : Bool) → IsEntryLine line → c ≡ names → appends ≡ true
         → Grows b fixed (grown t names line n) (changed fixed t (grown t names line n) (Append p line) answer) appends
@@ -85,21 +71,11 @@ module _ (home : Option Names) (c : Names) (at : path_kind home c ≡ Bucket) wh
         }
 
     unmoved : (p line : List ℕ) (answer : PlainAnswer) (appends : Bool) → Grows b fixed t (changed fixed t t (Append p line) answer) appends
-    unmoved p line answer appends =
-        same_fixed t (changed fixed t t (Append p line) answer) appends there
-        (file_kept fixed t t (Append p line) answer c (Some (File b)) there there refl refl refl)
-        (name_kept fixed t t (Append p line) answer c (Some (File b)) there there refl)
+    unmoved p line answer appends = search (rules, same_fixed, file_kept, name_kept)
 
     reached : (p line : List ℕ) (answer : PlainAnswer) (o : PlainAnswer × Tree) → IsEntryLine line → is_at (names_of p) c ≡ true → AppendCase t p line o
         → Grows b fixed o.1 (changed fixed t o.1 (Append p line) answer) (is_at (names_of p) c)
-    reached p line answer o is here (unsent fault e) =
-        subst (λ (o : PlainAnswer × Tree). Grows b fixed o.1 (changed fixed t o.1 (Append p line) answer) (is_at (names_of p) c)) (sym e) (unmoved p line answer (is_at (names_of p) c))
-    reached p line answer o is here (took names n to e) =
-        subst (λ (o : PlainAnswer × Tree). Grows b fixed o.1 (changed fixed t o.1 (Append p line) answer) (is_at (names_of p) c)) (sym e)
-        (behind p line answer names n (is_at (names_of p) c) is (same_path-true c names (ap (λ r. is_at r c) (sym to) ∙ here)) here)
-    reached p line answer o is here (torn names fault n to e) =
-        subst (λ (o : PlainAnswer × Tree). Grows b fixed o.1 (changed fixed t o.1 (Append p line) answer) (is_at (names_of p) c)) (sym e)
-        (behind p line answer names n (is_at (names_of p) c) is (same_path-true c names (ap (λ r. is_at r c) (sym to) ∙ here)) here)
+    reached p line answer o is here h = grind (arith, unsent, unmoved, took, behind, same_path-true, torn)
 
     appended : (p line : List ℕ) (luck : Luck) (answer : PlainAnswer) (hit : Bool) → is_at (names_of p) c ≡ hit → Proper home (Append p line)
         → Grows b fixed (apply t (Append p line) luck).1 (changed fixed t (apply t (Append p line) luck).1 (Append p line) answer) (is_at (names_of p) c)
@@ -109,16 +85,14 @@ module _ (home : Option Names) (c : Names) (at : path_kind home c ≡ Bucket) wh
     -- ---- syncs
 
     sync_grows : (done : Bool) (later : Fixed) (appends : Bool) → Grows b fixed t later appends → Grows b fixed t (cond done later fixed) appends
-    sync_grows true later appends g = g
-    sync_grows false later appends g = same_fixed t fixed appends there refl refl
+    sync_grows done later appends g = grind (arith, same_fixed)
 
     by_sync : (step : PlainStep) (luck : Luck) (done : Bool) (later : Fixed) (appends : Bool) → is_sync step ≡ true → Grows b fixed t later appends
         → Grows b fixed (apply t step luck).1 (cond done later fixed) appends
     by_sync step luck done later appends is g = subst (λ new. Grows b fixed new (cond done later fixed) appends) (sym (sync_tree t step luck is)) (sync_grows done later appends g)
 
     cond_kept : (size : ℕ) (done : Bool) (f : Fixing) → size ≤ length b → size ≤ f.kept → size ≤ (cond done (synced (bytes_of (look t c))) f).kept
-    cond_kept size true f short k = rw there short
-    cond_kept size false f short k = k
+    cond_kept size done f short k = grind (arith, common_steps)
 
     -- ---- each step
 
@@ -130,13 +104,8 @@ module _ (home : Option Names) (c : Names) (at : path_kind home c ≡ Bucket) wh
     each_grows (SyncTemp f) luck answer calm is =
         by_sync (SyncTemp f) luck (is_synced answer) (temp_synced fixed f) false refl
         (same_fixed t (temp_synced fixed f) false there (rw (at_false home Temporary Bucket c (names_of f.path) calm.1 at (λ e. cc)) refl) refl)
-    each_grows (SyncFile p) luck answer calm is =
-        by_sync (SyncFile p) luck (is_synced answer) (file_synced fixed t p) false refl
-        (unchanged t (file_synced fixed t p) false there (λ size short k. cond_kept size (is_at (leads t p) c) (fixed.files c) short k) (λ e. e)
-        (λ w. cond_whole (is_at (leads t p) c) (bytes_of (look t c)) (fixed.files c) w))
-    each_grows (SyncDir p) luck answer calm is =
-        by_sync (SyncDir p) luck (is_synced answer) (folder_synced fixed p) false refl
-        (unchanged t (folder_synced fixed p) false there (λ size short k. k) (cond_none (is_child_of (names_of p) c) (fixed.names c)) (λ w. w))
+    each_grows (SyncFile p) luck answer calm is = search (rules, by_sync, unchanged, cond_kept, cond_whole)
+    each_grows (SyncDir p) luck answer calm is = search (rules, by_sync, unchanged, cond_none)
     each_grows (CreateTemp p) luck answer calm is = missed (CreateTemp p) luck answer false refl is (at_false home Temporary Bucket c (names_of p) is at (λ e. cc))
     each_grows (Write f bytes) luck answer calm is = missed (Write f bytes) luck answer false refl is (at_false home Temporary Bucket c (names_of f.path) calm.1 at (λ e. cc))
     each_grows step luck answer calm is = missed step luck answer false calm.0 is tt

@@ -1,5 +1,5 @@
 -- At each place the temporary file of a durable put that is moved next is synced, or gone.
-use Rattle.std.proofs.{Common.{◌≡◌, inl, inr, ◌<◌, ◌≤◌, ◌^◌, ◌==◌, ℕ, Bool, true, false, cond, List, [], ◌∷◌, ◌++◌, Option, None, Some, Ok, option_map, refl, sym, ap, subst, ◌∙◌, arith}, lemmas.Bool.{eq-eqb}}
+use Rattle.std.proofs.{lemmas.{Grind.{common_steps}, Bool.{eq-eqb}}, Common.{rules, ◌≡◌, inl, inr, ◌<◌, ◌≤◌, ◌^◌, ◌==◌, ℕ, Bool, true, false, cond, List, [], ◌∷◌, ◌++◌, Option, None, Some, Ok, option_map, refl, sym, ap, subst, ◌∙◌, arith}}
 use Rattle.cacache_core.specs.PathNames.{Names, names_of}
 use Rattle.cacache_store.specs.{declared.store.plain.PlainTemp.{PlainTemp}, Plain.{PlainStep, PlainAnswer}}
 use Rattle.cacache_store.specs.declared.store.step.Step.TheVariants as steps
@@ -31,8 +31,7 @@ pub record TempsHold (m : Moment) (w : Now) : Type 0 where
 -- ---- what a sync leaves
 
 synced_so : (a : PlainAnswer) (new : PlainTemp) → synced_in a ≡ Ok new → is_synced a ≡ true
-synced_so (answers.Synced f) new e = refl
-synced_so a new e = absurd cc
+synced_so a new e = grind (arith, common_steps)
 
 sync_leaves : (fixed : Fixed) (t new : Tree) (f : PlainTemp) (q : Names) (step : PlainStep) (a : PlainAnswer) → ◌≡◌ {A = Option PlainStep} (Some (steps.SyncTemp f)) (Some step)
     → is_synced a ≡ true → names_of f.path ≡ Ok q → ((fixed_after fixed t new step a).files q).whole ≡ true
@@ -44,8 +43,7 @@ sync_leaves fixed t new f q step a is done named = absurd cc
 
 sync_gives : (t : Tree) (f new : PlainTemp) (step : PlainStep) (luck : Luck) (a : PlainAnswer) → ◌≡◌ {A = Option PlainStep} (Some (steps.SyncTemp f)) (Some step)
     → a ≡ (apply t step luck).0 → synced_in a ≡ Ok new → f ≡ new
-sync_gives t f new (steps.SyncTemp g) luck a is told e = let same : f ≡ g = cc in same ∙ temp_synced t g new luck (ap synced_in (sym told) ∙ e)
-sync_gives t f new step luck a is told e = absurd cc
+sync_gives t f new step luck a is told e = grind (arith, temp_synced)
 
 -- ---- a move
 
@@ -69,9 +67,7 @@ module _ (s : Setup) (apart : LieApart (home s) s.outside) (m : Moment) (w : Now
   -- another call's temporary file is spared
   spares : (other : Call) (p : List ℕ) (q : Names) → other.number < 2 ^ 64 → (other.number ≡ call.number → ⊥) → p ≡ temp_path s.cache other.number → names_of p ≡ Ok q
       → (step : PlainStep) → Allowed (call_site s call.number) (may_export s) (is_outside s) step → Spares q step
-  spares other p q less differ at named (steps.CreateTemp r) a = temps_apart s.cache other.number call.number p r q less (small caller call is) differ at a named
-  spares other p q less differ at named (steps.Write f bytes) a = temps_apart s.cache other.number call.number p f.path q less (small caller call is) differ at a named
-  spares other p q less differ at named step a = tt
+  spares other p q less differ at named step a = grind (arith, temps_apart, small)
 
   moves_still : (other : Call) → other.number < 2 ^ 64 → (other.number ≡ call.number → ⊥) → (state : State) → Sound (call_site s other.number) (may_export s) (is_outside s) state
       → Moves (IsSynced m) state → Moves (IsSynced later) state
@@ -84,17 +80,10 @@ module _ (s : Setup) (apart : LieApart (home s) s.outside) (m : Moment) (w : Now
   -- other calls
   other_temp : (k : ℕ) (o : Option Call) → w.calls k ≡ o → (k ≡ caller → ⊥) → TempAt m o → TempAt later o
   other_temp k None here differ old = tt
-  other_temp k (Some other) here differ old = λ p put durable.
-      elim (old p put durable) [
-        | inl waits ↦ inl waits
-        | inr moves ↦ inr (moves_still other (small k other here) (numbers_apart w numbered k caller other call differ here is) other.state
-            (of_caller s other _ here (all.calls k)).sound moves)
-      ]
+  other_temp k (Some other) here differ old = search (rules, moves_still, small, numbers_apart, of_caller)
 
   synced_later : (f new : PlainTemp) → ◌≡◌ {A = Option PlainStep} (Some (steps.SyncTemp f)) (Some made.0) → synced_in made.1 ≡ Ok new → IsSynced later new
-  synced_later f new sync e = λ q named.
-      let same = sync_gives w.tree f new made.0 luck made.1 sync may.1 e in
-      inr (sync_leaves m.fixed m.tree later.tree f q made.0 made.1 sync (synced_so made.1 new e) (ap (λ (f : PlainTemp). names_of f.path) same ∙ named))
+  synced_later f new sync e = search (rules, sync_gives, sync_leaves, synced_so)
 
   -- the call itself
   own_temp : TempAt m (Some call) → TempAt later (Some (call_after w.tree luck (Some made) call))
@@ -104,20 +93,15 @@ module _ (s : Setup) (apart : LieApart (home s) s.outside) (m : Moment) (w : Now
   moved_temp o e = subst (λ o. TempAt later (option_map (call_after w.tree luck (Some made)) o)) (sym e) (own_temp (subst (TempAt m) is (h.temps caller)))
 
   temp_after : (k : ℕ) (b : Bool) → (k == caller) ≡ b → TempAt later (cond b (unless_over reply (option_map (call_after w.tree luck (Some made)) (w.calls caller))) (w.calls k))
-  temp_after k true e = ended_at (TempAt later) tt reply _ (moved_temp (w.calls caller) is)
-  temp_after k false e = other_temp k (w.calls k) refl (λ same. let yes : true ≡ false = sym (eq-eqb k caller same) ∙ e in absurd cc) (h.temps k)
+  temp_after k b e = grind (arith, ended_at, moved_temp, other_temp)
 
   pub move_temps : TempsHold later (now_after s w (Moved caller luck (Some made) reply))
-  move_temps = record {
-    tree = ap (λ t. (apply t made.0 luck).1) h.tree;
-    temps = λ k. temp_after k (k == caller) refl;
-  }
+  move_temps = search (rules, temp_after)
 
 -- ---- any record
 
 kept_call : (m : Moment) (t : Tree) (luck : Luck) (o : Option Call) → TempAt m o → TempAt m (option_map (call_after t luck None) o)
-kept_call m t luck None h = h
-kept_call m t luck (Some call) h = h
+kept_call m t luck o h = grind (arith, common_steps)
 
 began_temp : (m : Moment) (s : Setup) (n : ℕ) (command : Command) → TempAt m (Some (new_call s n command))
 began_temp m s n command = λ p put durable. subst (λ c. IsDurable (IsSynced m) (opening (call_site s n) c)) (sym put) (inl durable)

@@ -1,5 +1,5 @@
 -- What appends leave of lines: cut anywhere, it holds the first of its entries.
-use Rattle.std.proofs.{Common.{◌≡◌, ◌⊎◌, inl, inr, ℕ, zero, suc, ◌+◌, ◌-◌, ◌≤◌, ◌<◌, List, [], ◌++◌, Bool, true, false, nat_le, Some, length, take, refl, sym, ap, subst, ◌∙◌, arith, append_assoc, append-nil}, Math.Seq.{take-append-add}, lemmas.{Bool.{leb-true, leb-false}, List.{length-take, take-append-le, take-take, take_all}}}
+use Rattle.std.proofs.{lemmas.{Grind.{common_steps}, Bool.{leb-true, leb-false}, List.{length-take, take-append-le, take-take, take_all}}, Common.{rules, ◌≡◌, ◌⊎◌, inl, inr, ℕ, zero, suc, ◌+◌, ◌-◌, ◌≤◌, ◌<◌, List, [], ◌++◌, Bool, true, false, nat_le, Some, length, take, refl, sym, ap, subst, ◌∙◌, arith, append_assoc, append-nil}, Math.Seq.{take-append-add}}
 use Rattle.cacache_disk.specs.declared.node.Node.TheVariants.{File}
 use Rattle.cacache_entry.{specs.{Entry.{line_of, piece_of, closing}, Bucket.{entries_of}}, proofs.Lines.{empty_holds_nothing}}
 use Rattle.cacache_value.{specs.{Placed.{IsEntryLine}, ValueLaws.{IsLonger}}, proofs.AppendedLines.{bucket_left, torn_closed, whole_closed}}
@@ -24,8 +24,7 @@ none_first zero = same_longer [] [] refl
 none_first (suc k) = same_longer [] [] refl
 
 no_part : (k : ℕ) → let none : List ℕ = [] in take k none ≡ none
-no_part zero = refl
-no_part (suc k) = refl
+no_part k = grind (arith, common_steps)
 
 -- ---- one line
 
@@ -87,9 +86,7 @@ line_behind m line n is =
 
 -- it adds its entries to those of the bytes before it
 part_behind : (m x : List ℕ) → IsPart x → entries_of (m ++ x) ≡ entries_of m ++ entries_of x
-part_behind m x (inl e) =
-    subst (λ y. entries_of (m ++ y) ≡ entries_of m ++ entries_of y) (sym e)
-    (ap entries_of (append-nil m) ∙ sym (append-nil (entries_of m)) ∙ ap (λ es. entries_of m ++ es) (sym empty_holds_nothing))
+part_behind m x (inl e) = search (rules, empty_holds_nothing)
 part_behind m x (inr l) = subst (λ y. entries_of (m ++ y) ≡ entries_of m ++ entries_of y) (sym l.3) (line_behind m l.0 l.1 l.2)
 
 -- so bytes that hold their first entries still do with such a part after them

@@ -1,5 +1,5 @@
 -- What durable commits stored outlasts each later loss of power.
-use Rattle.std.proofs.Common.{◌≡◌, ◌⊎◌, inl, inr, ℕ, true, List, [], ◌∷◌, ◌++◌, Option, None, Some, Ok, length, refl, sym, ap, subst, ◌∙◌, append_assoc}
+use Rattle.std.proofs.Common.{rules, ◌≡◌, ◌⊎◌, inl, inr, ℕ, true, List, [], ◌∷◌, ◌++◌, Option, None, Some, Ok, length, refl, sym, ap, subst, ◌∙◌, append_assoc}
 use Rattle.sha1.specs.Sha1.{sha1}
 use Rattle.cacache_core.specs.{declared.integrity.digest.Hash.{Hash}, Integrity.{IsHash}, PathNames.{Names, names_of}, Paths.{bucket_names_of, content_names, folders_to, joined}}
 use Rattle.cacache_store.specs.declared.store.step.Step.TheVariants as steps
@@ -152,8 +152,7 @@ inserted_whole h legal folder home_is n put =
     (by_reply h put.before put.rest (commands.Insert n) put.reply (Stored put.stored.0) put.stored.1 put.call)
 
 pub puts_or_links_outlast : (h : History) → IsLegal h → FewCalls h → PutsOrLinksOutlast h
-puts_or_links_outlast h legal few folder p loss left home_is put left_of =
-    (content_left h legal folder home_is p put loss left left_of few, key_left h legal folder home_is p put loss left left_of p.key refl)
+puts_or_links_outlast h legal few folder p loss left home_is put left_of = search (rules, content_left, key_left)
 
 pub entries_have_behind : (h : History) → IsLegal h → EntriesHaveBehind h
 entries_have_behind h legal folder p key loss left home_is put keyed left_of =
@@ -182,10 +181,4 @@ inserts_have_behind h legal folder n loss left home_is put left_of =
     entry_behind (insertion h.setup.cache n).entry (inserted_whole h legal folder home_is n put) loss left left_of
 
 pub histories_outlive : HistoriesOutlive
-histories_outlive h legal = record {
-  caches = losses_leave_caches h legal;
-  puts = puts_outlast h legal;
-  inserts = inserts_outlast h legal;
-  behind_puts = puts_have_behind h legal;
-  behind_inserts = inserts_have_behind h legal;
-}
+histories_outlive h legal = search (rules, losses_leave_caches, puts_outlast, inserts_outlast, puts_have_behind, inserts_have_behind)

@@ -1,5 +1,5 @@
 -- What a durable put that answered made, in order: its content, the syncs of its folders, and what its entry takes.
-use Rattle.std.proofs.Common.{◌≡◌, ◌⊎◌, inl, inr, ◌==◌, ℕ, Bool, true, false, cond, List, [], ◌∷◌, ◌++◌, Option, None, Some, Result, Ok, Err, drop, refl, ap, subst, ◌∙◌}
+use Rattle.std.proofs.Common.{arith, rules, ◌≡◌, ◌⊎◌, inl, inr, ◌==◌, ℕ, Bool, true, false, cond, List, [], ◌∷◌, ◌++◌, Option, None, Some, Result, Ok, Err, drop, refl, ap, subst, ◌∙◌}
 use Rattle.cacache_core.specs.declared.{errors.{Fault.{Fault}, IntegrityFault.TheVariants.{Check}, Error.{Error, TheVariants.{SizeMismatch, IoError, IntegrityError, OutOfMemory}}}, integrity.digest.Hash.{Hash}}
 use Rattle.cacache_core.specs.declared.errors.Fault.TheVariants as faults
 use Rattle.cacache_store.specs.{declared.store.plain.PlainTemp.{PlainTemp}, Plain.{PlainAnswer}}
@@ -21,26 +21,21 @@ module _ (i : List Hash) where
     Adds (Some key) moves = Appends i (insertion_of c key) moves
 
     later_adds : (key : Option (List ℕ)) (front moves all : Moves) → all ≡ front ++ moves → Adds key moves → Adds key all
-    later_adds None front moves all e a = tt
-    later_adds (Some key) front moves all e a = later_appends i (insertion_of c key) front moves all e a
+    later_adds key front moves all e a = grind (arith, later_appends)
 
     either : (b : Bool) (s : State) (e : Error) (moves : Moves) → Stores i (cond b s (ends_with e)) moves → Stores i s moves
     either true s e moves run = run
     either false s e moves run = refused i e moves run
 
     by_size : (size : Option ℕ) (moves : Moves) → Stores i (sized c size) moves → Stores i (indexed c c.key) moves
-    by_size None moves run = run
-    by_size (Some wanted) moves run = either (wanted == c.count) (indexed c c.key) (SizeMismatch wanted c.count) moves run
+    by_size size moves run = grind (arith, either)
 
     by_integrity : (expected : Option (List Hash)) (moves : Moves) → Stores i (compared c expected) moves → Stores i (indexed c c.key) moves
-    by_integrity None moves run = by_size c.options.size moves run
-    by_integrity (Some expected) moves run =
-        by_size c.options.size moves (either (matches expected c.computed) (sized c c.options.size) (IntegrityError (Check expected c.computed)) moves run)
+    by_integrity expected moves run = grind (arith, by_size, either)
 
     module _ (durable : c.options.durable ≡ true) where
       by_key : (key : Option (List ℕ)) (moves : Moves) → Stores i (indexed c key) moves → Adds key moves
-      by_key None moves run = tt
-      by_key (Some key) moves run = inserted i (insertion_of c key) durable moves run
+      by_key key moves run = grind (arith, inserted)
 
       -- the folders are synced, and then the entry is added
       pub secures : (moves : Moves) → Stores i (secured c) moves → HasDirs (content_folders c.cache c.computed) moves × Adds c.key moves
@@ -55,9 +50,7 @@ module _ (i : List Hash) where
       -- before them the content, if it was found
       pub secures_found : (moves : Moves) → Stores i (secured_found c) moves
           → (more : Moves) × (moves ≡ (steps.SyncFile (content_path c.cache c.computed), answers.Done) ∷ more) × Stores i (secured c) more
-      secures_found moves run =
-          does i (sync_file (content_path c.cache c.computed)) (secured c) moves
-          (subst (λ b. Stores i (cond b (doing (sync_file (content_path c.cache c.computed)) (secured c)) (secured c)) moves) durable run)
+      secures_found moves run = search (rules, does)
 
     -- ---- and before
 
@@ -111,8 +104,7 @@ module _ (i : List Hash) where
 
     rest_written : (file : PlainTemp) (rest : List ℕ) (moves : Moves) → ((file : PlainTemp) (rest : List ℕ) → Stores i (writing c file rest) moves → Places moves)
         → Stores i (write_rest c file rest) moves → Places moves
-    rest_written file [] moves k run = let d = does i (make_folder _) (move_in c file) moves run in later_places _ d.0 moves d.1 (moved_on file c.options.durable d.0 d.2)
-    rest_written file (b ∷ rest) moves k run = k file (b ∷ rest) run
+    rest_written file rest moves k run = grind (arith, does, later_places, moved_on)
 
     written : (moves : Moves) (file : PlainTemp) (rest : List ℕ) → Stores i (writing c file rest) moves → Places moves
     written [] file rest (inl e) = absurd cc

@@ -1,5 +1,5 @@
 -- A quiet call's steps are calm, so moves of quiet calls are.
-use Rattle.std.proofs.Common.{◌≡◌, ℕ, Bool, true, false, List, [], ◌∷◌, ◌++◌, None, Some, refl, sym, subst}
+use Rattle.std.proofs.{Common.{arith, rules, ◌≡◌, ℕ, Bool, true, false, List, [], ◌∷◌, ◌++◌, None, Some, refl, sym, subst}, lemmas.Grind.{common_steps}}
 use Rattle.cacache_core.specs.PathNames.{Names}
 use Rattle.cacache_store.specs.declared.store.step.Step.TheVariants as steps
 use Rattle.cacache_store.specs.Plain.{PlainStep}
@@ -12,17 +12,10 @@ use Rattle.cacache_loss.specs.CalmMoves.{is_calm, AreCalm, CalmStep, CalmSteps, 
 
 -- a call that only takes in makes calm steps
 step_calm : (step : PlainStep) → May (allows taking_in step) → is_calm step ≡ true
-step_calm (steps.Symlink target p) may = absurd may
-step_calm (steps.Copy p q) may = absurd may
-step_calm (steps.Reflink p q) may = absurd may
-step_calm (steps.HardLink p q) may = absurd may
-step_calm (steps.RemoveFile p) may = absurd may
-step_calm (steps.RemoveDir p) may = absurd may
-step_calm step may = refl
+step_calm step may = grind (arith, common_steps)
 
 may_be : (b : Bool) → b ≡ true → May b
-may_be true e = tt
-may_be false e = absurd cc
+may_be b e = grind (arith, common_steps)
 
 module _ (s : Setup) where
   -- a call's temporary file is for that
@@ -31,9 +24,7 @@ module _ (s : Setup) where
   temp_for n p e = subst (IsFor (home s) Temporary) (sym e) ((paths_are_for s.cache).temporary n)
 
   allowed_handles : (n : ℕ) (step : PlainStep) → Allowed (call_site s n) (may_export s) (is_outside s) step → HandlesTemp (home s) step
-  allowed_handles n (steps.Write f bytes) a = temp_for n f.path a
-  allowed_handles n (steps.SyncTemp f) a = temp_for n f.path a
-  allowed_handles n step a = tt
+  allowed_handles n step a = grind (arith, temp_for)
 
   -- the step that a quiet call wants
   pub quiet_wants : (call : Call) (step : PlainStep) → CallHolds s call → is_quiet call.command ≡ true → wants call.state ≡ Some step → CalmStep (home s) step
@@ -62,7 +53,4 @@ module _ (s : Setup) where
 -- from a place on, all steps are calm if all moves are quiet
 pub calm_at : (h : History) → IsLegal h → (before rest : List Record) → h.records ≡ before ++ rest → (path : Names) → AreQuiet h.setup path (now_at h before) rest
     → AreCalm (home h.setup) (moment_at h before) (steps_of rest)
-calm_at h legal before rest is path quiet = (
-  trace_at h legal before rest is,
-  quiet_steps h.setup legal.apart path (now_at h before) rest (legal_after h legal before rest is) (held_at h legal before rest is) quiet,
-)
+calm_at h legal before rest is path quiet = search (rules, trace_at, quiet_steps, legal_after, held_at)

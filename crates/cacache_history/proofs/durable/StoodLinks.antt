@@ -1,5 +1,5 @@
 -- A link that is at a content's path after calm moves was there before them.
-use Rattle.std.proofs.Common.{◌≡◌, ℕ, Bool, true, false, cond, List, [], ◌∷◌, ◌++◌, Option, None, Some, refl, sym, ap, subst, ◌∙◌}
+use Rattle.std.proofs.Common.{arith, ◌≡◌, ℕ, Bool, true, false, cond, List, [], ◌∷◌, ◌++◌, Option, None, Some, refl, sym, ap, subst, ◌∙◌}
 use Rattle.cacache_core.specs.PathNames.{Names, names_of}
 use Rattle.cacache_store.specs.{declared.store.plain.PlainTemp.{PlainTemp}, Plain.{PlainStep, PlainAnswer}}
 use Rattle.cacache_store.specs.declared.store.step.Step.TheVariants as steps
@@ -21,13 +21,7 @@ module _ (home : Option Names) (c : Names) (at : path_kind home c ≡ Content) (
         sym (keeps home t placed c (look t c) refl (λ names count way. make_apart home Content t [] names c count at (λ e. cc) way) step luck calm.0 is misses) ∙ linked
 
     reached : (f : PlainTemp) (p : List ℕ) (o : PlainAnswer × Tree) → is_at (names_of p) c ≡ true → PersistCase t f p o → Linked o.1 → Linked t
-    reached f p o here (refused fault e) linked = subst (λ (o : PlainAnswer × Tree). Linked o.1 → Linked t) (sym e) (λ linked. linked) linked
-    reached f p o here (moved new old to has from names e) linked =
-        let same : c ≡ to = same_path-true c to (ap (λ r. is_at r c) (sym names) ∙ here) in
-        let file : look (put (cut t old) c (File new)) c ≡ Some (File new) = look-put (cut t old) c (File new) c ∙ ap (λ b. cond b (Some (File new)) (look (cut t old) c)) (same_self c) in
-        let there : look (put (cut t old) c (File new)) c ≡ Some (Link target)
-        = ap (λ to. look (put (cut t old) to (File new)) c) same ∙ ap (λ (o : PlainAnswer × Tree). look o.1 c) (sym e) ∙ linked in
-        let both : Some (File new) ≡ Some (Link target) = sym file ∙ there in absurd cc
+    reached f p o here h linked = grind (arith, refused, moved, same_path-true, look-put, same_self)
 
     persisted : (f : PlainTemp) (p : List ℕ) (luck : Luck) (b : Bool) → is_at (names_of p) c ≡ b → CalmStep home (steps.Persist f p) → Proper home (steps.Persist f p)
         → Linked (apply t (steps.Persist f p) luck).1 → Linked t

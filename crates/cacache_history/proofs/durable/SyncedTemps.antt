@@ -1,5 +1,5 @@
 -- What a durable put moves to its content's place is synced, and has the digest of its address.
-use Rattle.std.proofs.{Common.{◌≡◌, inl, inr, ℕ, true, List, [], ◌∷◌, ◌++◌, Option, None, Some, Result, Ok, Err, refl, sym, ap, subst, ◌∙◌, arith, append_assoc, append-nil}, lemmas.List.{append_cancel_left}}
+use Rattle.std.proofs.{lemmas.{Grind.{common_steps}, List.{append_cancel_left}}, Common.{◌≡◌, inl, inr, ℕ, true, List, [], ◌∷◌, ◌++◌, Option, None, Some, Result, Ok, Err, refl, sym, ap, subst, ◌∙◌, arith, append_assoc, append-nil}}
 use Rattle.std.specs.Prelude.{IfOk}
 use Rattle.cacache_core.specs.{declared.{errors.Fault.{Fault, TheVariants.{NotFound}}, integrity.digest.Hash.{Hash}}, Integrity.{IsHash}, PathNames.{Names, home_of, names_below, names_of}, Paths.{content_names, joined}}
 use Rattle.cacache_core.proofs.{JoinedNames.{joined_texts_name}, PathTexts.{paths_differ}, ProperNames.{names_are_proper}}
@@ -22,12 +22,7 @@ kept_none t path q named none = rw (named, none) refl
 
 unmoved : (t : Tree) (here : Result (List ℕ) Fault) (old : Result Names Fault) (go : List ℕ → Names → PlainAnswer × Tree) → old ≡ Err NotFound
     → (unless here t (λ bytes. unless old t (go bytes))).0 ≡ answers.Done → ⊥
-unmoved t (Ok bytes) old go e done = absurd (by old e done)
-  where
-    by : (old : Result Names Fault) → old ≡ Err NotFound → (unless old t (go bytes)).0 ≡ answers.Done → ⊥
-    by (Ok names) e done = absurd cc
-    by (Err fault) e done = absurd cc
-unmoved t (Err fault) old go e done = absurd cc
+unmoved t here old go e done = grind (arith, common_steps)
 
 moves_there : (t : Tree) (f : PlainTemp) (to : List ℕ) (luck : Luck) (q : Names) → names_of f.path ≡ Ok q → look t q ≡ None → (apply t (steps.Persist f to) luck).0 ≡ answers.Done → ⊥
 moves_there t f to luck q named none =
@@ -79,12 +74,7 @@ module _ (h : History) (legal : IsLegal h) (few : FewCalls h) (before rest : Lis
 
   whole_there : (f : PlainTemp) (to : List ℕ) (luck : Luck) (r : Result Names Fault) → names_of f.path ≡ r → (apply (now_at h before).tree (steps.Persist f to) luck).0 ≡ answers.Done
       → IsSynced (moment_at h before) f → IfOk r (λ from. ((moment_at h before).fixed.files from).whole ≡ true)
-  whole_there f to luck (Ok q) named done synced =
-      elim (synced q named) [
-        | inl none ↦ absurd (moves_there (now_at h before).tree f to luck q named (ap (λ t. look t q) (sym (temps_at h legal few before rest is).tree) ∙ none) done)
-        | inr whole ↦ whole
-      ]
-  whole_there f to luck (Err fault) named done synced = tt
+  whole_there f to luck r named done synced = grind (arith, moves_there, temps_at)
 
   put_makes : (f : PlainTemp) (to : List ℕ) (p : Put) → wants call.state ≡ Some (steps.Persist f to) → call.command ≡ commands.Put p
       → Makes (own_of (call_site h.setup call.number) (commands.Put p)) (steps.Persist f to)
@@ -125,8 +115,7 @@ module _ (h : History) (legal : IsLegal h) (few : FewCalls h) (before rest : Lis
 
     pub step_puts : (step : PlainStep) (answer : PlainAnswer) (luck : Luck) → wants call.state ≡ Some step → answer ≡ (apply (now_at h before).tree step luck).0
         → PutsDurably path call.command step → PutsStep (HasDigest a) path (moment_at h before) step answer
-    step_puts (steps.Persist f to) answer luck w told durable = λ done named. moved_good f to luck call.command w (sym told ∙ done) refl (makes f to w) durable named
-    step_puts step answer luck w told durable = tt
+    step_puts step answer luck w told durable = grind (arith, moved_good, makes)
 
 -- what a durable put moved
 pub persist_synced : (h : History) → IsLegal h → FewCalls h → (before later : List Record) (caller : ℕ) (luck : Luck) (f : PlainTemp) (to : List ℕ) (told : Option Reply) (call : Call) (p : Put)

@@ -1,5 +1,5 @@
 -- A step that neither makes nor writes a temporary file leaves it synced, or takes it away.
-use Rattle.std.proofs.{Common.{◌≡◌, ◌⊎◌, inl, inr, ℕ, Bool, true, false, cond, List, [], Option, None, Ok, Err, refl, sym, ap, ◌∙◌}, lemmas.Bool.{false_from_ne_true}}
+use Rattle.std.proofs.{Common.{arith, rules, ◌≡◌, ◌⊎◌, inl, inr, ℕ, Bool, true, false, cond, List, [], Option, None, Ok, Err, refl, sym, ap, ◌∙◌}, lemmas.{Grind.{common_steps}, Bool.{false_from_ne_true}}}
 use Rattle.std.specs.Prelude.{Result, unwrap_or}
 use Rattle.cacache_core.specs.{declared.errors.Fault.{Fault}, PathNames.{Names, names_of}}
 use Rattle.cacache_store.specs.{declared.store.{step.Step.TheVariants.{CreateTemp, Write, Persist, Copy, SyncTemp, SyncFile, SyncDir}, answer.Answer.TheVariants.{Done}}, Plain.{PlainStep, PlainAnswer}}
@@ -26,13 +26,11 @@ other_path home k q names at is apart = false_from_ne_true (same_path q names) (
 
 module _ (q : Names) where
   at_self : (r : Result Names Fault) → r ≡ Ok q → is_at r q ≡ false → ⊥
-  at_self (Ok n) e apart = let same : n ≡ q = cc in let differ : true ≡ false = sym (same_self q) ∙ ap (same_path q) (sym same) ∙ apart in absurd cc
-  at_self (Err fault) e apart = absurd cc
+  at_self r e apart = grind (arith, same_self)
 
   -- a step that spares the file makes none there
   unmade : (step : PlainStep) → Creates q step → Spares q step → ⊥
-  unmade (CreateTemp p) creates spares = at_self (names_of p) creates spares
-  unmade step creates spares = creates
+  unmade step creates spares = grind (arith, at_self)
 
 module _ (home : Option Names) (t : Tree) (placed : Placed home t) (q : Names) (at : path_kind home q ≡ Temporary) where
   -- nothing is left at the path, or what was there
@@ -40,12 +38,7 @@ module _ (home : Option Names) (t : Tree) (placed : Placed home t) (q : Names) (
   Left new = (look new q ≡ None) ⊎ (look new q ≡ look t q)
 
   left_after : (step : PlainStep) (luck : Luck) → Proper home step → Spares q step → Left (apply t step luck).1
-  left_after step luck is spares =
-      elim (temp_at home t step luck q at placed is) [
-        | as_was e ↦ inr e
-        | came creates none e ↦ absurd (unmade q step creates spares)
-        | went takes e ↦ inl e
-      ]
+  left_after step luck is spares = search (rules, temp_at, as_was, came, unmade, went)
 
   -- ---- it isn't written anew
 
@@ -54,12 +47,10 @@ module _ (home : Option Names) (t : Tree) (placed : Placed home t) (q : Names) (
   rewritten (Err fault) to found is = refl
 
   rewrites : (step : PlainStep) → Proper home step → rewrites_at t step q ≡ false
-  rewrites (Copy p to) is = rewritten (writable t to) to refl is
-  rewrites step is = refl
+  rewrites step is = grind (arith, rewritten)
 
   writes : (step : PlainStep) → Spares q step → writes_at step q ≡ false
-  writes (Write f bytes) spares = spares
-  writes step spares = refl
+  writes step spares = grind (arith, common_steps)
 
   moves : (step : PlainStep) (answer : PlainAnswer) → Proper home step → moved_to (moves_file step answer) q ≡ false
   moves (Persist f p) Done is = between_false (names_of f.path) (names_of p) q (at_false home Content Temporary q (names_of p) is.1 at (λ e. cc))
@@ -71,15 +62,12 @@ module _ (home : Option Names) (t : Tree) (placed : Placed home t) (q : Names) (
   Whole fixed = (fixed.files q).whole ≡ true
 
   sync_whole : (b : Bool) (later fixed : Fixed) → Whole later → Whole fixed → Whole (cond b later fixed)
-  sync_whole true later fixed new old = new
-  sync_whole false later fixed new old = old
+  sync_whole b later fixed new old = grind (arith, common_steps)
 
   whole_after : (fixed : Fixed) (new : Tree) (step : PlainStep) (answer : PlainAnswer) → Proper home step → Spares q step → look new q ≡ look t q → Whole fixed
       → Whole (fixed_after fixed t new step answer)
-  whole_after fixed new (SyncTemp f) answer is spares e h =
-      sync_whole (is_synced answer) (temp_synced fixed f) fixed (cond_whole (is_at (names_of f.path) q) (unwrap_or f.bytes []) (fixed.files q) h) h
-  whole_after fixed new (SyncFile p) answer is spares e h =
-      sync_whole (is_synced answer) (file_synced fixed t p) fixed (cond_whole (is_at (leads t p) q) (bytes_of (look t q)) (fixed.files q) h) h
+  whole_after fixed new (SyncTemp f) answer is spares e h = search (rules, sync_whole, cond_whole)
+  whole_after fixed new (SyncFile p) answer is spares e h = search (rules, sync_whole, cond_whole)
   whole_after fixed new (SyncDir p) answer is spares e h = sync_whole (is_synced answer) (folder_synced fixed p) fixed h h
   whole_after fixed new step answer is spares e h =
       ap (λ (f : Fixing). f.whole) (file_kept fixed t new step answer q (look t q) refl e (moves step answer is) (rewrites step is) (writes step spares)) ∙ h
@@ -87,11 +75,4 @@ module _ (home : Option Names) (t : Tree) (placed : Placed home t) (q : Names) (
 -- it is ready after each proper step that spares it
 pub ready_next : (home : Option Names) (q : Names) (w : Moment) (m : Move) → path_kind home q ≡ Temporary → Placed home w.tree → Proper home m.step → Spares q m.step
     → IsReady q w → IsReady q (next w m)
-ready_next home q w m at placed is spares ready =
-    elim (left_after home w.tree placed q at m.step m.luck is spares) [
-      | inl e ↦ inl e
-      | inr e ↦ elim ready [
-        | inl none ↦ inl (e ∙ none)
-        | inr whole ↦ inr (whole_after home w.tree placed q at w.fixed (next w m).tree m.step m.answer is spares e whole)
-      ]
-    ]
+ready_next home q w m at placed is spares ready = search (rules, left_after, whole_after)

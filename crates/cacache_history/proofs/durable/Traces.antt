@@ -1,5 +1,5 @@
 -- Each place of a legal history has a cache's moment, from which its steps are a trace.
-use Rattle.std.proofs.Common.{◌≡◌, List, [], ◌∷◌, ◌++◌, None, Some, refl, sym, ap, subst}
+use Rattle.std.proofs.Common.{rules, ◌≡◌, List, [], ◌∷◌, ◌++◌, None, Some, refl, sym, ap, subst}
 use Rattle.cacache_disk.specs.{declared.luck.Luck.{Luck}, Apply.{apply}}
 use Rattle.cacache_value.specs.Traces.{IsTrace, Move}
 use Rattle.cacache_history.specs.{declared.record.Record.{Record, TheVariants.{Began, Moved, Stopped}}, Setup.{Setup, home}, History.{History, IsLegal, Made, Now, initial, now_after, now_at, replayed}, Values.{steps_of}, durable.Outlasting.{LossesLeaveCaches, moment_at}}
@@ -38,9 +38,7 @@ module _ (h : History) (legal : IsLegal h) where
   module _ (before rest : List Record) (is : h.records ≡ before ++ rest) where
     -- the steps from a place on are a trace
     pub trace_at : IsTrace (home h.setup) (moment_at h before).tree (steps_of rest)
-    trace_at =
-        subst (λ t. IsTrace (home h.setup) t (steps_of rest)) (sym (tree_at h before))
-        (traced h.setup legal.apart (now_at h before) rest (legal_after h legal before rest is) (held_at h legal before rest is)).trace
+    trace_at = search (rules, tree_at, traced, legal_after, held_at)
 
     -- each moment is one of a cache
     pub of_cache_at : OfCache (home h.setup) (moment_at h before) × StoodWell (home h.setup) (moment_at h before).fixed

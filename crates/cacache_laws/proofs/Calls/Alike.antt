@@ -1,5 +1,5 @@
 -- The deeds of a call alone change contents and entries.
-use Rattle.std.proofs.Common.{◌≡◌, Bool, true, false, cond, List, [], ◌∷◌, ◌++◌, Option, None, Some, refl, sym, ap, subst, ◌∙◌, append-nil}
+use Rattle.std.proofs.{Common.{arith, ◌≡◌, Bool, true, false, cond, List, [], ◌∷◌, ◌++◌, Option, None, Some, refl, sym, ap, subst, ◌∙◌, append-nil}, lemmas.Grind.{common_steps}}
 use Rattle.cacache_core.specs.{PathNames.{Names}, Paths.{content_names, bucket_names_of}}
 use Rattle.cacache_store.specs.declared.store.step.Step.TheVariants as steps
 use Rattle.cacache_store.specs.declared.store.answer.Answer.TheVariants as answers
@@ -15,50 +15,21 @@ use Rattle.cacache_laws.specs.Sequence.{turns_on, plain_moves, Alike, after_deed
 
 added : (b : Bool) (o p : Option (List Entry)) (new : List Entry) → list_of o ≡ list_of p
     → list_of (cond b (Some (list_of o ++ new)) o) ≡ list_of (cond b (Some (list_of p ++ new)) p)
-added true o p new e = ap (λ l. l ++ new) e
-added false o p new e = e
+added b o p new e = grind (arith, common_steps)
 
 dropped : (b : Bool) (o p : Option (List Entry)) → list_of o ≡ list_of p → list_of (cond b None o) ≡ list_of (cond b None p)
-dropped true o p e = refl
-dropped false o p e = e
+dropped b o p e = grind (arith, common_steps)
 
 none_added : (b : Bool) (o : Option (List Entry)) → list_of (cond b (Some (list_of o ++ [])) o) ≡ list_of o
-none_added true o = append-nil (list_of o)
-none_added false o = refl
+none_added b o = grind (arith, common_steps)
 
 module _ (folder : Option Names) where
   pub change_alike : (act : Act) (v w : Value) → Alike v w → Alike (change folder act v) (change folder act w)
-  change_alike Nothing v w h = h
-  change_alike (PutBytes path bytes) v w h = record {
-    contents = λ a. ap (cond (is_path_of folder (content_names a) path) (Some (InFile bytes))) (h.contents a);
-    lists = h.lists;
-  }
-  change_alike (PutLink path target) v w h = record {
-    contents = λ a. ap (cond (is_path_of folder (content_names a) path) (Some (AtLink target))) (h.contents a);
-    lists = h.lists;
-  }
-  change_alike (AddEntries path new) v w h = record {
-    contents = h.contents;
-    lists = λ d. added (is_path_of folder (bucket_names_of d) path) (v.buckets d) (w.buckets d) new (h.lists d);
-  }
-  change_alike (Drop path) v w h = record {
-    contents = λ a. ap (cond (is_path_of folder (content_names a) path) None) (h.contents a);
-    lists = λ d. dropped (is_path_of folder (bucket_names_of d) path) (v.buckets d) (w.buckets d) (h.lists d);
-  }
-  change_alike act v w h = record { contents = h.contents; lists = h.lists }
+  change_alike act v w h = grind (arith, added, dropped)
 
   -- an act, and its deeds
   act_alike : (act : Act) (v w : Value) → Alike v w → Alike (change folder act v) (after_deeds folder (deeds_of_act act) w)
-  act_alike Nothing v w h = h
-  act_alike (PutBytes path bytes) v w h = change_alike (PutBytes path bytes) v w h
-  act_alike (PutLink path target) v w h = change_alike (PutLink path target) v w h
-  act_alike (AddEntries path []) v w h = record {
-    contents = h.contents;
-    lists = λ d. none_added (is_path_of folder (bucket_names_of d) path) (v.buckets d) ∙ h.lists d;
-  }
-  act_alike (AddEntries path (e ∷ es)) v w h = change_alike (AddEntries path (e ∷ es)) v w h
-  act_alike (Drop path) v w h = change_alike (Drop path) v w h
-  act_alike act v w h = record { contents = h.contents; lists = h.lists }
+  act_alike act v w h = grind (arith, change_alike, none_added)
 
   -- ---- one after another
 
@@ -68,8 +39,7 @@ module _ (folder : Option Names) where
   after_more (finds path ∷ ds) more w = after_more ds more w
 
   after_finds : (step : PlainStep) (answer : PlainAnswer) (w : Value) → after_deeds folder (finds_in step answer) w ≡ w
-  after_finds (steps.Exists path) (answers.There true) w = refl
-  after_finds step answer w = refl
+  after_finds step answer w = grind (arith, common_steps)
 
   pub moves_alike : (t : Tree) (moves : Moves) (v w : Value) → Alike v w
       → Alike (acts folder v (plain_moves moves)) (after_deeds folder (deeds (turns_on t moves)) w)

@@ -1,6 +1,6 @@
 -- Calls that store, remove or clear give no error except that of a step, or out of memory.
 -- Errors without their messages, as laws tell them.
-use Rattle.std.proofs.Common.{◌≡◌, ◌⊎◌, inl, inr, ℕ, Bool, true, List, [], ◌∷◌, Option, None, Some, get_or, refl, sym, subst, ◌∙◌}
+use Rattle.std.proofs.{Common.{arith, rules, ◌≡◌, ◌⊎◌, inl, inr, ℕ, Bool, true, List, [], ◌∷◌, Option, None, Some, get_or, refl, sym, subst, ◌∙◌}, lemmas.Grind.{common_steps}}
 use Rattle.cacache_core.specs.declared.{errors.{SerdeCause.{SerdeCause}, Error.{TheVariants.{SerdeError, EntryNotFound, OutOfMemory}, Error}}, integrity.digest.Hash.{Hash}}
 use Rattle.cacache_store.specs.declared.store.log.LogItem.{LogItem}
 use Rattle.cacache_calls.specs.{Walking.{EachVisit}, declared.{visit.Visit.{Visit, TheVariants.{ReadBucket}}, command.{Insert.{Insert}, Put.{Put}}, reply.Reply.{Reply, TheVariants.{Refused}}, carried.Commit.{Commit}}, Inserting.{unless_refused, insertion, deletion, refused_cause}, State.{State, Site, doing, creating, writing, syncing, persisting, linking, confirming, appending, walking, over, Insertion}, Storing.{insertion_of, indexed, sized, compared, placed, put_commit}, Table.{after, opening}, Runs.{Moves, Runs, without_message}}
@@ -36,20 +36,16 @@ Calm other = ⊥
 -- ---- commits
 
 by_cause : (i : Insertion) (cause : Option SerdeCause) → cause ≡ None → FailsOnly i.reply → Calm (unless_refused i cause)
-by_cause i None e h = h
-by_cause i (Some cause) e h = absurd cc
+by_cause i cause e h = grind (arith, common_steps)
 
 by_key : (c : Commit) (key : Option (List ℕ)) → c.key ≡ key → Plain c → Calm (indexed c key)
-by_key c None e p = tt
-by_key c (Some key) e p = by_cause (insertion_of c key) (refused_cause (insertion_of c key)) (p.written key e) tt
+by_key c key e p = grind (arith, by_cause)
 
 by_size : (c : Commit) (size : Option ℕ) → size ≡ None → Plain c → Calm (sized c size)
-by_size c None e p = by_key c c.key refl p
-by_size c (Some wanted) e p = absurd cc
+by_size c size e p = grind (arith, by_key)
 
 by_integrity : (c : Commit) (expected : Option (List Hash)) → expected ≡ None → Plain c → Calm (compared c expected)
-by_integrity c None e p = by_size c c.options.size p.no_size p
-by_integrity c (Some expected) e p = absurd cc
+by_integrity c expected e p = grind (arith, by_size)
 
 places : (c : Commit) → Plain c → Calm (placed c)
 places c p = by_integrity c c.options.integrity p.no_integrity p
@@ -60,35 +56,13 @@ abbrev IsClearing : Bool → Type 0
 IsClearing clears = clears ≡ true
 
 commits_calm : ClosedCommit AnyAnswer Calm
-commits_calm = record {
-  created = λ number c rest file b h. h;
-  wrote = λ c file rest w b h. h;
-  moved = λ c file h. (h, h);
-  synced = λ c file new b h. h;
-  persisted = λ c file fault h. h;
-  linked = λ c target fault h. h;
-  there = λ c fault h. (places c h, λ p s k. (k, k));
-}
+commits_calm = search (rules, places)
 
 walks_calm : ClosedWalk AnyAnswer Calm IsClearing ClearsAt
-walks_calm = record {
-  visited = λ w v todo h. h;
-  visiting = λ w v todo h k t. (h, (k, t));
-  names = λ b level p names br h k i d lt. subst (λ b. MayMeet ClearsAt level p b (get_or names i d)) (sym h) (tt, tt);
-  left = λ level p h k. tt;
-  cleared = λ h. tt;
-  listed = λ items h. absurd cc;
-}
+walks_calm = search rules
 
 closed : Closed AnyAnswer Calm IsClearing ClearsAt
-closed = record {
-  ends = record { failed = λ s fault h. tt; memory = λ s h. tt; errand = λ e s h. h };
-  commits = commits_calm;
-  inserts = λ i h. (h, λ p s k. (k, k));
-  reads = record { found = λ l found h. absurd h; met = λ k bytes e h. absurd h; unmet = λ k bytes h. absurd h; asked = λ k there h. absurd h };
-  files = record { sized = λ t n h. absurd h; opened = λ x file b h. absurd h; got = λ x file bytes g b h. absurd h; copied = λ from to count n h. absurd h };
-  walks = walks_calm;
-}
+closed = search (rules, commits_calm, walks_calm)
 
 pub calm_run : (s : State) (moves : Moves) (r : Reply) → Calm s → Runs s moves r → FailsOnly r
 calm_run s [] r h (inl e) = subst Calm e h
@@ -99,19 +73,7 @@ same_key : (P : List ℕ → Type 0) (a b : List ℕ) (o : Option (List ℕ)) �
 same_key P a b o e f h = let same : Some a ≡ Some b = sym e ∙ f in let is : a ≡ b = cc in subst P is h
 
 pub calls_fail_only : CallsFailOnly
-calls_fail_only = record {
-  puts = λ site key p moves r is run.
-      let plain : Plain (put_commit site.cache p)
-      = record {
-        no_integrity = is.no_integrity;
-        no_size = is.no_size;
-        written = λ k e. same_key (λ k. refused_cause (insertion_of (put_commit site.cache p) k) ≡ None) key k p.key is.key_is e is.written;
-      } in
-      calm_run (opening site (commands.Put p)) moves r plain run;
-  deletes = λ site d moves r written run.
-      calm_run (opening site (commands.Delete d)) moves r (by_cause (deletion site.cache d) (refused_cause (deletion site.cache d)) written tt) run;
-  clears = λ site moves r run. calm_run (opening site commands.Clear) moves r (refl, (tt, tt)) run;
-}
+calls_fail_only = search (rules, same_key, calm_run, by_cause)
 
 -- so is a put without a key
 pub contents_fail : (site : Site) (p : Put) (moves : Moves) (r : Reply) → p.key ≡ None → p.options.integrity ≡ None → p.options.size ≡ None → Runs (opening site (commands.Put p)) moves r → FailsOnly r
@@ -135,19 +97,15 @@ inserts_fail site i moves r run = by (refused_cause (insertion site.cache i)) re
     by (Some cause) some (m ∷ moves) run = absurd cc
 
 pub plain_error : (e : Error) → without_message (without_message e) ≡ without_message e
-plain_error (EntryNotFound c k) = refl
-plain_error e = refl
+plain_error e = grind (arith, common_steps)
 
 -- an error that has no message is told as it is
 pub memory_error : (e : Error) → without_message e ≡ OutOfMemory → e ≡ OutOfMemory
-memory_error OutOfMemory h = refl
-memory_error e h = absurd cc
+memory_error e h = grind (arith, common_steps)
 
 pub missing_error : (e : Error) (cache key : List ℕ) → without_message e ≡ EntryNotFound cache key → e ≡ EntryNotFound cache key
-missing_error (EntryNotFound c k) cache key h = h
-missing_error e cache key h = absurd cc
+missing_error e cache key h = grind (arith, common_steps)
 
 -- what excuses an error without its message excuses it
 pub excused_error : (e : Error) (old new : List LogItem) → IsExcused (without_message e) old new → IsExcused e old new
-excused_error e old new (inl m) = inl (memory_error e m)
-excused_error e old new (inr h) = inr h
+excused_error e old new h = grind (arith, memory_error)

@@ -1,6 +1,6 @@
 -- A call that is made in parts holds at each of them, and answers as a whole call.
 -- What goes through a handle itself counts as steps of its call.
-use Rattle.std.proofs.{Common.{◌≡◌, inl, inr, ℕ, List, [], ◌∷◌, ◌++◌, None, Some, refl, sym, ap, subst, ◌∙◌, append-nil, append_assoc, ◌==◌, Option, length, take, drop, arith, eqb-true}, lemmas.{Bool.{eq-eqb, cond-true}, List.{take_all}}, Math.Seq.{drop-length}}
+use Rattle.std.proofs.{lemmas.{Grind.{common_steps}, Bool.{eq-eqb, cond-true}, List.{take_all}}, Common.{rules, ◌≡◌, inl, inr, ℕ, List, [], ◌∷◌, ◌++◌, None, Some, refl, sym, ap, subst, ◌∙◌, append-nil, append_assoc, ◌==◌, Option, length, take, drop, arith, eqb-true}, Math.Seq.{drop-length}}
 use Rattle.std.specs.Prelude.{map}
 use Rattle.cacache_core.specs.declared.errors.{Error.TheVariants.{OutOfMemory}, Fault.{Fault}}
 use Rattle.cacache_store.specs.{declared.store.{log.LogItem.TheVariants.{Made}, plain.{PlainFile.{PlainFile}, PlainTemp.{PlainTemp}}}, Fits.{Fits}}
@@ -101,8 +101,7 @@ module _ (s : Setup) (apart : LieApart (home s) s.outside) (command : Command) (
 
   parts_hold : (parts : List Part) (turns : List Turn) (state next : State) → AreParts s parts → CallHolds s (stands turns state) → Goes state (moves_in parts) next
       → CallHolds s (stands (turns ++ turns_in parts) next) × EachTurn (KeyedTurn s) (turns_in parts)
-  parts_hold [] turns state next h mine g =
-      (subst (λ x. CallHolds s (stands (turns ++ []) x)) g (subst (λ l. CallHolds s (stands l state)) (sym (append-nil turns)) mine), tt)
+  parts_hold [] turns state next h mine g = search rules
   parts_hold (made t moves ∷ parts) turns state next h mine g =
       let a = goes_apart state next moves (moves_in parts) g in
       let one = part_holds t moves turns state a.0 h.0 h.1 mine a.1 in
@@ -139,18 +138,11 @@ calls_begin s command number may named = record { may = may; named = named; goes
 -- with some parts more
 pub with_parts : (s : Setup) (call : Begun) (state next : State) (more : List Part) → IsOnItsWay s call state → AreParts s more → Goes state (moves_in more) next
     → IsOnItsWay s (record call { parts = call.parts ++ more }) next
-with_parts s call state next more way are g = record {
-  may = way.may;
-  named = way.named;
-  goes = subst (λ l. Goes (opening (call_site s call.number) call.command) l next) (sym (moves_more call.parts more))
-      (goes_through (opening (call_site s call.number) call.command) state next (moves_in call.parts) (moves_in more) way.goes g);
-  parts = parts_more s call.parts more way.parts are;
-}
+with_parts s call state next more way are g = search (rules, moves_more, goes_through, parts_more)
 
 pub with_part_goes : (s : Setup) (call : Begun) (state next : State) (t : Tree) (moves : Moves) → IsOnItsWay s call state → IsSound (home s) t → Goes state moves next → AreAnswered t moves
     → IsOnItsWay s (with_part call t moves) next
-with_part_goes s call state next t moves way sound g answered =
-    with_parts s call state next (made t moves ∷ []) way (sound, answered, tt) (subst (λ l. Goes state l next) (sym (append-nil moves)) g)
+with_part_goes s call state next t moves way sound g answered = search (rules, with_parts)
 
 module _ (s : Setup) (apart : LieApart (home s) s.outside) (call : Begun) where
   pub way_holds : (state : State) → IsOnItsWay s call state
@@ -218,8 +210,7 @@ unfolding apply
 writing_keeps t file bytes = refl
 
 some_faultless : (file full : PlainTemp) (b : ℕ) (bs : List ℕ) (fault : Fault) → Faulted ((steps.Write file (b ∷ bs), answers.Wrote full (length (b ∷ bs))) ∷ []) fault → ⊥
-some_faultless file full b bs fault (inl h) = omega (arith, h.1)
-some_faultless file full b bs fault (inr h) = h
+some_faultless file full b bs fault h = grind (arith, common_steps)
 
 pub writes_are_parts : WritesAreParts
 writes_are_parts s call c file full [] t way sound empty path_is bytes_are =
@@ -249,9 +240,7 @@ byte_rest : (b : ℕ) (all : List ℕ) → rest_of (b ∷ all) 1 ≡ opened all
 byte_rest b all = ap (λ n. file_of n all) (omega arith)
 
 byte_given : (b : ℕ) (all : List ℕ) → given (opened (b ∷ all)) 1 (Some (b ∷ all)) ≡ answers.Got (opened all) (b ∷ [])
-byte_given b all =
-    cond-true (length (b ∷ all) == length (b ∷ all)) (answers.Got (rest_of (b ∷ all) 1) (b ∷ [])) (answers.Failed faults.Closed) (eq-eqb (length (b ∷ all)) (length (b ∷ all)) refl)
-    ∙ ap (λ f. answers.Got f (b ∷ [])) (byte_rest b all)
+byte_given b all = search (rules, byte_rest)
 
 -- reads of these bytes, one by one
 abbrev reads_of : Tree → List ℕ → List ℕ → List Part

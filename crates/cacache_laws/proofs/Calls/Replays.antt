@@ -1,5 +1,6 @@
 -- The log of a store in memory, part by part.
-use Rattle.std.{proofs.Common.{◌≡◌, ℕ, List, [], ◌∷◌, ◌++◌, None, Result, Ok, Err, refl, sym, ap, ◌∙◌, append-nil, append_assoc}, specs.{Prelude.{map}, Result.{result_err}}}
+use Rattle.std.proofs.{Common.{arith, ◌≡◌, ℕ, List, [], ◌∷◌, ◌++◌, None, Result, Ok, Err, refl, sym, ap, ◌∙◌, append-nil, append_assoc}, lemmas.Grind.{common_steps}}
+use Rattle.std.specs.{Prelude.{map}, Result.{result_err}}
 use Rattle.cacache_core.specs.declared.errors.Fault.{Fault}
 use Rattle.cacache_store.specs.declared.store.log.LogItem.{LogItem, TheVariants.{Made}}
 use Rattle.cacache_disk.specs.{declared.luck.Luck.TheVariants.{Plain}, Tree.{Tree}, Apply.{apply, planted}, LedTo.{and_then}, memory.Replay.{changed, after, replay, IsReplayable}}
@@ -30,8 +31,7 @@ moves_answered t (m ∷ moves) more h = (h.0, moves_answered (apply t m.0 Plain)
 
 -- a file that was planted without a fault
 pub planted_so : (t : Tree) (r : Result Tree Fault) → result_err r ≡ None → r ≡ Ok (changed t r)
-planted_so t (Ok new) e = refl
-planted_so t (Err fault) e = absurd cc
+planted_so t r e = grind (arith, common_steps)
 
 pub files_lead : (t : Tree) (files : List (List ℕ × List ℕ)) (more : List LogItem) → IsReplayable t (planted_log files ++ more) → with_files t files ≡ Ok (replay t (planted_log files))
 files_lead t [] more h = refl

@@ -1,5 +1,5 @@
 -- Calls in sequence: each keeps what holds of the tree, and answers by it.
-use Rattle.std.{proofs.Common.{◌≡◌, inl, inr, List, [], ◌∷◌, ◌++◌, Option, None, Some, refl, sym, ap, subst, ◌∙◌, append-nil, append_assoc}, specs.Prelude.{map}}
+use Rattle.std.{proofs.Common.{rules, ◌≡◌, inl, inr, List, [], ◌∷◌, ◌++◌, Option, None, Some, refl, sym, ap, subst, ◌∙◌, append-nil, append_assoc}, specs.Prelude.{map}}
 use Rattle.cacache_store.specs.declared.store.log.LogItem.{LogItem, TheVariants.{Made}}
 use Rattle.cacache_disk.specs.{declared.luck.Luck.TheVariants.{Plain}, Tree.{Tree, bare}, Apply.{apply}, memory.Replay.{replay, IsReplayable, tree_of, IsLog}}
 use Rattle.cacache_calls.specs.{declared.reply.Reply.{Reply}, Runs.{Moves, Runs, plain_reply}, Sound.{MayBegin}, State.{State}, Table.{after, opening}}
@@ -179,14 +179,7 @@ pub sound_alone : (s : Setup) (t : Tree) → AllHold s (alone t) → Keeps s t �
 sound_alone s t hold keeps = record { placed = hold.placed; rooted = hold.rooted; formed = hold.formed; right = hold.right; keyed = keeps.keyed; own = keeps.own }
 
 pub openings_are_sound : OpeningsAreSound
-openings_are_sound folder t o = record {
-  placed = o.placed;
-  rooted = o.rooted;
-  formed = opening_formed folder t o;
-  right = opening_right folder t o;
-  keyed = opening_keyed folder t o;
-  own = opening_own folder t o;
-}
+openings_are_sound folder t o = search (rules, opening_formed, opening_right, opening_keyed, opening_own)
 
 pub calls_answer_alone : CallsAreAnswered
 unfolding tree_of IsLog

@@ -1,5 +1,5 @@
 -- The bytes of a content are at the path where a copy of it went.
-use Rattle.std.proofs.{Common.{◌≡◌, inl, inr, ℕ, Bool, true, false, cond, List, [], ◌∷◌, Option, None, Some, Result, Ok, Err, length, option_map, refl, sym, ap, subst, ◌∙◌, arith}, lemmas.List.Elements.{All-head}}
+use Rattle.std.proofs.{lemmas.{Grind.{common_steps}, List.Elements.{All-head}}, Common.{rules, ◌≡◌, inl, inr, ℕ, Bool, true, false, cond, List, [], ◌∷◌, Option, None, Some, Result, Ok, Err, length, option_map, refl, sym, ap, subst, ◌∙◌, arith}}
 use Rattle.cacache_core.specs.{declared.{errors.{Error.{Error, TheVariants.{IntegrityError, IoError}}, Fault.{Fault}, IntegrityFault.TheVariants.{Check}}, integrity.digest.Hash.{Hash}}, Integrity.{IsHash, IsIntegrity, Meets, actual}, Meeting.{meets}, PathNames.{Names, home_of, names_below, names_of}, Paths.{content_names, bucket_names_of}}
 use Rattle.cacache_core.proofs.Meeting.{meets_finds}
 use Rattle.sha1.specs.Sha1.{sha1}
@@ -22,11 +22,7 @@ use Rattle.cacache_laws.proofs.{Links.Linking.{nowhere}, Sure.{SureExports.{expo
 
 -- it is that of the bytes that the copy took
 counted : (to : List ℕ) (t : Tree) (blob : Option Blob) (n : ℕ) → made_reply Copy to t blob ≡ Copied n → (bytes : List ℕ) × (blob_read faults.InvalidInput t blob ≡ Ok bytes) × (n ≡ length bytes)
-counted to t blob n = by (blob_read faults.InvalidInput t blob) (writable t to)
-  where
-    by : (r : Result (List ℕ) Fault) (w : Result Names Fault) → or_told r (λ bytes. or_told w (λ names. Copied (length bytes))) ≡ Copied n → (bytes : List ℕ) × (r ≡ Ok bytes) × (n ≡ length bytes)
-    by (Ok bytes) (Ok names) is = (bytes, refl, cc)
-    by _ w is = absurd cc
+counted to t blob n = search rules
 
 module _ (to : List ℕ) (i : List Hash) (t : Tree) (blob : Option Blob) (n : ℕ) where
   -- so is the count of a copy that is verified first, and the bytes meet the integrity
@@ -34,31 +30,15 @@ module _ (to : List ℕ) (i : List Hash) (t : Tree) (blob : Option Blob) (n : �
   Takes checked = (bytes : List ℕ) × (blob_read faults.InvalidInput t blob ≡ Ok bytes) × (checked ≡ true → Meets i bytes) × (n ≡ length bytes)
 
   met : (b : Bool) (read : List ℕ) → blob_bytes t blob ≡ Ok read → meets i read ≡ b → cond b (made_reply Copy to t blob) (Refused (IntegrityError (Check i (actual i read)))) ≡ Copied n → Takes true
-  met false read whole finds is = absurd cc
-  met true read whole finds is =
-      let h = counted to t blob n is in
-      let both : ◌≡◌ {A = Result (List ℕ) Fault} (Ok read) (Ok h.0) = sym whole ∙ read_too t blob h.0 h.1 in
-      let same : read ≡ h.0 = cc in
-      (h.0, h.1, λ _. subst (Meets i) same ((meets_finds i read).0 finds), h.2)
+  met b read whole finds is = grind (arith, counted, read_too, meets_finds)
 
   takes : (checked : Bool) → exported_reply i (record { how = Copy; checked = checked; to = to }) t blob ≡ Copied n → Takes checked
-  takes false is = let h = counted to t blob n is in (h.0, h.1, λ no. absurd cc, h.2)
-  takes true is = by (blob_bytes t blob) refl is
-    where
-      by : (r : Result (List ℕ) Fault) → blob_bytes t blob ≡ r → or_told r (verified_reply i (made_reply Copy to t blob)) ≡ Copied n → Takes true
-      by (Err fault) whole is = absurd cc
-      by (Ok read) whole is = met (meets i read) read whole refl is
+  takes checked is = grind (arith, counted, met)
 
 -- the source of what was copied leads to an integrity
 leads_on : (cache : List ℕ) (source : Source) (e : Export) (log : List LogItem) (n : ℕ) → export_reply cache source e log ≡ Copied n
     → (i : List Hash) × NamesHeld cache source i log × (exported_reply i e (tree_of log) (lies_under cache i log) ≡ Copied n)
-leads_on cache (sources.Hash i) e log n is = (i, refl, is)
-leads_on cache (sources.Key key) e log n is = by (found_under cache key log) refl is
-  where
-    by : (found : Option Found) → found_under cache key log ≡ found → led_reply cache key e log found ≡ Copied n
-        → (i : List Hash) × (option_map (λ (f : Found). f.integrity) (found_under cache key log) ≡ Some i) × (exported_reply i e (tree_of log) (lies_under cache i log) ≡ Copied n)
-    by None finds is = absurd cc
-    by (Some f) finds is = (f.integrity, ap (option_map (λ (f : Found). f.integrity)) finds, is)
+leads_on cache source e log n is = grind (arith, common_steps)
 
 -- ---- a cache whose path names no folder
 
@@ -96,8 +76,7 @@ module _ (cache to : List ℕ) (checked : Bool) (none : home_of cache ≡ None) 
       (told_all t path (Err faults.InvalidInput) (nowhere t path faults.InvalidInput faults.IsADirectory below)) (stopped (IoError faults.InvalidInput []))
 
   by_source : (base : List ℕ) (number : ℕ) (source : Source) → NamesSource source → EndsSo NoCount t (opening (record { cache = cache; base = base; number = number }) (copy_from source checked to))
-  by_source base number (sources.Hash i) formed = by_hash i formed
-  by_source base number (sources.Key key) formed = by_key key
+  by_source base number source formed = grind (arith, by_hash, by_key)
 
 -- ---- a copy
 

@@ -1,5 +1,5 @@
 -- An export to a path apart from the cache leaves what the cache holds.
-use Rattle.std.proofs.{Common.{◌≡◌, ℕ, Bool, true, false, cond, List, [], ◌∷◌, ◌++◌, Option, None, Some, Result, Ok, Err, refl, sym, ap, subst, ◌∙◌}, lemmas.Bool.{and_from}}
+use Rattle.std.proofs.{Common.{arith, rules, ◌≡◌, ℕ, Bool, true, false, cond, List, [], ◌∷◌, ◌++◌, Option, None, Some, Result, Ok, Err, refl, sym, ap, subst, ◌∙◌}, lemmas.{Grind.{common_steps}, Bool.{and_from}}}
 use Rattle.std.specs.Prelude.{IfOk, bytes_eq}
 use Rattle.cacache_core.specs.{Paths.{content_area, index_area, temp_area}, declared.errors.Fault.{Fault}, PathNames.{Names, names_of, home_of}}
 use Rattle.cacache_store.specs.declared.store.answer.Answer.TheVariants as answers
@@ -19,8 +19,7 @@ use Rattle.cacache_laws.proofs.{Putting.Deeds.{stays_known}, Readings.Known.{kno
 
 module _ (home : Option Names) where
   finds_only : (step : PlainStep) (a : PlainAnswer) (rest : List Deed) (v : Value) → after_deeds home (finds_in step a ++ rest) v ≡ after_deeds home rest v
-  finds_only (steps.Exists path) (answers.There true) rest v = refl
-  finds_only step a rest v = refl
+  finds_only step a rest v = grind (arith, common_steps)
 
   pub nothing_done : (turns : List Turn) (v : Value) → EachTurn TurnDoesNothing turns → after_deeds home (deeds turns) v ≡ v
   nothing_done [] v h = refl
@@ -31,14 +30,10 @@ module _ (home : Option Names) where
 -- ---- paths apart
 
 below_kind : (a b c : Bool) (rest : Names) → cond a (kind_in_area OfContent 4 rest) (cond b (kind_in_area Bucket 3 rest) (cond c (kind_in_area Temporary 1 rest) Stray)) ≡ Elsewhere → ⊥
-below_kind true b c rest e = kind_in_used OfContent 4 rest (λ k. absurd cc) e
-below_kind false true c rest e = kind_in_used Bucket 3 rest (λ k. absurd cc) e
-below_kind false false true rest e = kind_in_used Temporary 1 rest (λ k. absurd cc) e
-below_kind false false false rest e = absurd cc
+below_kind a b c rest e = grind (arith, kind_in_used)
 
 beside_by : (b : Bool) (kind : PathKind) (apart : Bool) → (kind ≡ Elsewhere → apart ≡ true) → cond b kind Elsewhere ≡ Elsewhere → cond b apart true ≡ true
-beside_by true kind apart h e = h e
-beside_by false kind apart h e = refl
+beside_by b kind apart h e = grind (arith, common_steps)
 
 beside : (folder path : Names) → kind_beside folder path ≡ Elsewhere → are_apart folder path ≡ true
 beside [] (area ∷ rest) e = absurd (below_kind (bytes_eq area content_area) (bytes_eq area index_area) (bytes_eq area temp_area) rest e)
@@ -46,15 +41,10 @@ beside (n ∷ ns) (m ∷ ms) e = beside_by (bytes_eq n m) (kind_beside ns ms) (a
 beside _ _ e = absurd cc
 
 home_apart : (folder : Option Names) (path : Names) → path_kind folder path ≡ Elsewhere → apart_from_home folder path ≡ true
-home_apart None path e = refl
-home_apart (Some folder) path e = beside folder path e
+home_apart folder path e = grind (arith, beside)
 
 pub exports_apart : (cache base to : List ℕ) → IsFor (home_of cache) Elsewhere to → may_export (setup_at cache base) to ≡ true
-exports_apart cache base to for = by (names_of to) for
-  where
-    by : (r : Result Names Fault) → IfOk r (λ names. path_kind (home_of cache) names ≡ Elsewhere) → may_take (setup_at cache base) r ≡ true
-    by (Ok names) is = and_from (apart_from_home (home_of cache) names) true (home_apart (home_of cache) names is) refl
-    by (Err fault) is = refl
+exports_apart cache base to for = search (rules, home_apart)
 
 pub exports_keep : ExportsKeep
 exports_keep cache source e r old new for named sound c =

@@ -1,5 +1,5 @@
 -- Each export of bytes that are there leaves them at its path, or fails for a step of its own or for memory.
-use Rattle.std.proofs.Common.{◌≡◌, inl, inr, ℕ, Bool, true, List, Option, None, Some, option_map, Result, Ok, Err, length, refl, sym, ap, subst, ◌∙◌}
+use Rattle.std.proofs.Common.{arith, ◌≡◌, inl, inr, ℕ, Bool, true, List, Option, None, Some, option_map, Result, Ok, Err, length, refl, sym, ap, subst, ◌∙◌}
 use Rattle.cacache_core.specs.{declared.{errors.Fault.{Fault}, integrity.digest.Hash.{Hash}}, PathNames.{Names, home_of}, Integrity.{address}}
 use Rattle.cacache_store.specs.declared.store.log.LogItem.{LogItem}
 use Rattle.cacache_disk.specs.{Tree.{Tree}, LedTo.{free, writable}, memory.Replay.{shown, tree_of}}
@@ -63,10 +63,7 @@ key_leads cache key i bytes log has = ap (option_map (λ (f : Found). f.integrit
 
 -- what holds of the tree in the end, and why it fails
 arrives_so : (cache base bytes to : List ℕ) (how : How) (source : Source) (checked : Bool) (r : Reply) (old new : List LogItem) → Known cache base (export_by how source checked to) r old new → Ends bytes to (tree_of new) r → Arrives bytes to r old new
-arrives_so cache base bytes to how source checked (replies.Copied n) old new k h = h
-arrives_so cache base bytes to how source checked replies.Done old new k h = h
-arrives_so cache base bytes to how source checked (replies.Refused e) old new k h = excuse cache base (export_by how source checked to) old new (λ fault none. none) e k h
-arrives_so cache base bytes to how source checked r old new k h = absurd h
+arrives_so cache base bytes to how source checked r old new k h = grind (arith, excuse)
 
 pub exports_arrive : ExportsArrive
 exports_arrive cache bytes to how (sources.Hash i) checked r old new apart sound has c =

@@ -1,5 +1,5 @@
 -- A content stays at its address while each call spares it, so a collection keeps what its listing names.
-use Rattle.std.proofs.{Common.{◌≡◌, inl, inr, ◌≤◌, ◌+◌, ◌-◌, ℕ, zero, suc, List, [], ◌∷◌, Option, None, Some, take, drop, refl, sym, subst, ◌∙◌, take-append-drop, arith}, lemmas.List.Elements.{All-head}}
+use Rattle.std.proofs.{lemmas.{Grind.{common_steps}, List.Elements.{All-head}}, Common.{◌≡◌, inl, inr, ◌≤◌, ◌+◌, ◌-◌, ℕ, zero, suc, List, [], ◌∷◌, Option, None, Some, take, drop, refl, sym, subst, ◌∙◌, take-append-drop, arith}}
 use Rattle.std.specs.Prelude.{IfSome, slice_get}
 use Rattle.sha1.specs.Sha1.{sha1}
 use Rattle.cacache_core.specs.{declared.integrity.digest.Hash.{Hash}, Integrity.{IsHash, IsIntegrity, address}}
@@ -12,13 +12,10 @@ use Rattle.cacache_laws.{specs.Meanwhile.{AllSpare, CollectionsKeep, HoldsConten
 -- ---- contents
 
 is_there : (a : Hash) (blob : Option Blob) → IsContentOf a blob → IsThere blob
-is_there a None is = is
-is_there a (Some blob) is = tt
+is_there a blob is = grind (arith, common_steps)
 
 right_blob : (a : Hash) (blob : Option Blob) → IsThere blob → ((bytes : List ℕ) → blob ≡ Some (InFile bytes) → HasDigest a bytes) → IsContentOf a blob
-right_blob a None there right = there
-right_blob a (Some (InFile bytes)) there right = right bytes refl
-right_blob a (Some (AtLink target)) there right = tt
+right_blob a blob there right = grind (arith, common_steps)
 
 module _ (h : History) (legal : IsLegal h) (a : Hash) (is_hash : IsHash a) where
   abbrev pub Here : ℕ → Type 0
@@ -26,8 +23,7 @@ module _ (h : History) (legal : IsLegal h) (a : Hash) (is_hash : IsHash a) where
 
   record_keeps : (n : ℕ) (r : Record) → slice_get h.records n ≡ Some r → ((caller : ℕ) (call : Call) → MoveAt h n caller → (now_before h n).calls caller ≡ Some call → SparesAddress h.setup a call.turns call.command)
       → KeepContent (home h.setup) a (steps_of (r ∷ []))
-  record_keeps n (Moved caller luck (Some made) reply) is spares = (move_keeps h legal a is_hash n caller luck made reply is spares, tt)
-  record_keeps n r is spares = tt
+  record_keeps n r is spares = grind (arith, move_keeps)
 
   here_next : (m n : ℕ) → m ≤ n → AllSpare h m (suc n) a → Here n → Here (suc n)
   here_next m n from spares there =

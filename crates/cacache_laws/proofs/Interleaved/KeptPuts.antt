@@ -78,14 +78,7 @@ module _ (h : History) (legal : IsLegal h) (m n caller : ℕ) (p : Put) (spares 
       from_place t.place t.from (omega (arith, t.to)) (subst (λ (u : Turn). IsThere ((value_of_tree (home h.setup) u.place).contents a)) t.turn_is there)
 
   deed_keeps : (d : Deed) → PutsContent (put_commit h.setup.cache p) (λ names. PutBytes names p.data) d → (turn : Turn) → TurnIn h m n caller turn → TurnHolds h.setup turn → IsAmong d (deeds_of turn.move) → HoldsContent h n a
-  deed_keeps (does act) at turn t holds among =
-      elim (either (does act) (deeds_of_act (act_of turn.move.step turn.move.luck turn.move.answer)) (finds_in turn.move.step turn.move.answer) among) [
-        | inl did ↦ put_keeps turn at.0 t (act_is act _ did ∙ at.2) at.1
-        | inr found ↦ absurd (not_found act turn.move.step turn.move.answer found)
-      ]
-  deed_keeps (finds path) at turn t holds among =
-      let f = found_in path (act_of turn.move.step turn.move.luck turn.move.answer) turn.move.step turn.move.answer among in
-      find_keeps turn holds t (f.0 ∙ ap steps.Exists at) f.1
+  deed_keeps d at turn t holds among = grind (arith, either, put_keeps, act_is, not_found, found_in, find_keeps)
 
 pub puts_keep : PutsKeep
 puts_keep h legal m n caller call p i is c spares =

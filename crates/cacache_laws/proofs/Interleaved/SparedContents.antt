@@ -1,5 +1,5 @@
 -- What a move of a call that spares a content's address removed is another path.
-use Rattle.std.proofs.{Common.{◌≡◌, inl, inr, ℕ, true, false, List, [], ◌∷◌, ◌++◌, Option, Some, Ok, refl, sym, ap, subst, ◌∙◌, arith}, lemmas.List.Elements.{All-head}}
+use Rattle.std.proofs.{lemmas.{Grind.{common_steps}, List.Elements.{All-head}}, Common.{rules, ◌≡◌, inl, inr, ℕ, true, false, List, [], ◌∷◌, ◌++◌, Option, Some, Ok, refl, sym, ap, subst, ◌∙◌, arith}}
 use Rattle.std.specs.{Prelude.{slice_get}, List.{AllByRecursion}}
 use Rattle.sha1.specs.Sha1.{sha1}
 use Rattle.cacache_core.specs.{declared.{integrity.digest.Hash.{Hash}, errors.Error.TheVariants.{OutOfMemory}}, Integrity.{IsHash, IsIntegrity, address}, PathNames.{Names, names_of}, Paths.{joined, content_names, bucket_names_of}}
@@ -33,9 +33,7 @@ module _ (s : Setup) (a : Hash) (is_hash : IsHash a) where
       differs (ap Some (sym ((paths_differ.contents [] a b is_hash hash).0 (ap (joined []) same)))))
 
   bucket_apart : (key : List ℕ) (names : Names) → names_of (bucket_path s.cache key) ≡ Ok names → IsApart names
-  bucket_apart key names e =
-      not_true (is_path_of (home s) (content_names a) names)
-      (λ here. not_content a (sha1 key) (one_path (home s) (bucket_names_of (sha1 key)) (content_names a) names (sym (bucket_below s key) ∙ e) here))
+  bucket_apart key names e = search (rules, not_true, not_content, one_path, bucket_below)
 
   -- what was removed at paths that are apart is so
   drops_apart : (paths : List (List ℕ)) (ds : List Deed) (names : Names) → AllByRecursion (λ path. (at : Names) → names_of path ≡ Ok at → IsApart at) paths → DropsAmong paths ds → IsAmong (does (Drop names)) ds → IsApart names
@@ -54,8 +52,7 @@ abbrev keeping : Licence
 keeping = record { prepares = true; commits = true; links = true; inserts = true; lists = true; exports = true; removes = false }
 
 no_removal : (step : PlainStep) (names : Names) → MayAct (Drop names) step → May (allows keeping step) → ⊥
-no_removal (steps.RemoveFile p) names is may = may
-no_removal step names is may = is
+no_removal step names is may = grind (arith, common_steps)
 
 last_may : (turns : List Turn) (turn : Turn) → AllMay keeping (made_in (turns ++ turn ∷ [])) → May (allows keeping turn.move.step)
 last_may [] turn may = may.0
@@ -119,8 +116,4 @@ module _ (h : History) (legal : IsLegal h) (a : Hash) (is_hash : IsHash a) (n ca
 
   -- so the move keeps the content
   pub move_keeps : Spares → KeepsContent (home h.setup) a (act_of made.0 luck made.1)
-  move_keeps spares = by (act_of made.0 luck made.1) refl
-    where
-      by : (act : Act) → act_of made.0 luck made.1 ≡ act → KeepsContent (home h.setup) a act
-      by (Drop names) e = drop_apart names e spares
-      by act e = tt
+  move_keeps spares = search (rules, drop_apart)

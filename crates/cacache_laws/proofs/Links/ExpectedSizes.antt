@@ -1,5 +1,5 @@
 -- A link's commit that expects no size goes on as one that expects the size of its bytes; and how it fails.
-use Rattle.std.proofs.{Common.{◌≡◌, ◌⊎◌, inl, inr, ◌==◌, ℕ, true, cond, List, [], ◌∷◌, ◌++◌, Option, None, Some, length, refl, sym, ap, subst, ◌∙◌, append-nil, append_assoc}, lemmas.Bool.{eq-eqb, cond-true}}
+use Rattle.std.proofs.{Common.{arith, ◌≡◌, ◌⊎◌, inl, inr, ◌==◌, ℕ, true, cond, List, [], ◌∷◌, ◌++◌, Option, None, Some, length, refl, sym, ap, subst, ◌∙◌, append-nil, append_assoc}, lemmas.{Grind.{common_steps}, Bool.{eq-eqb, cond-true}}}
 use Rattle.cacache_core.specs.declared.{errors.{Error.{Error, TheVariants.{IntegrityError, IoError, OutOfMemory, SizeMismatch}}, Fault.{Fault}, IntegrityFault.TheVariants.{Check}}, integrity.digest.Hash.{Hash}}
 use Rattle.cacache_core.specs.declared.errors.Fault.TheVariants as faults
 use Rattle.cacache_store.specs.declared.store.answer.Answer.TheVariants as answers
@@ -26,8 +26,7 @@ module _ (t : Target ℕ) (a b : Option ℕ) (bytes : List ℕ) (same : placed (
   other = commit_for (of_size t b) bytes
 
   confirmed_same : (fault : Fault) (answer : PlainAnswer) → after (confirming one fault) answer ≡ after (confirming other fault) answer
-  confirmed_same fault (answers.There true) = same
-  confirmed_same fault answer = refl
+  confirmed_same fault answer = grind (arith, common_steps)
 
   confirming_same : (fault : Fault) (moves : Moves) (r : Reply) → Runs (confirming one fault) moves r → Runs (confirming other fault) moves r
   confirming_same fault [] r (inl e) = absurd cc
@@ -35,10 +34,7 @@ module _ (t : Target ℕ) (a b : Option ℕ) (bytes : List ℕ) (same : placed (
   confirming_same fault (m ∷ moves) r run = (run.0, run.1, subst (λ x. Runs x moves r) (confirmed_same fault m.1) run.2)
 
   linked_on : (answer : PlainAnswer) (moves : Moves) (r : Reply) → Runs (after (linking one t.path) answer) moves r → Runs (after (linking other t.path) answer) moves r
-  linked_on answers.Done moves r run = subst (λ x. Runs x moves r) same run
-  linked_on (answers.Failed fault) moves r run = confirming_same fault moves r run
-  linked_on (answers.NoMemory step) moves r run = run
-  linked_on answer moves r run = confirming_same faults.Device moves r run
+  linked_on answer moves r run = grind (arith, confirming_same)
 
   linking_same : (moves : Moves) (r : Reply) → Runs (linking one t.path) moves r → Runs (linking other t.path) moves r
   linking_same [] r (inl e) = absurd cc
@@ -46,8 +42,7 @@ module _ (t : Target ℕ) (a b : Option ℕ) (bytes : List ℕ) (same : placed (
   linking_same (m ∷ moves) r run = (run.0, run.1, linked_on m.1 moves r run.2)
 
   made_on : (answer : PlainAnswer) (moves : Moves) (r : Reply) → Runs (after (link one t.path) answer) moves r → Runs (after (link other t.path) answer) moves r
-  made_on answers.Done moves r run = linking_same moves r run
-  made_on answer moves r run = run
+  made_on answer moves r run = grind (arith, linking_same)
 
   link_same : (moves : Moves) (r : Reply) → Runs (link one t.path) moves r → Runs (link other t.path) moves r
   link_same [] r (inl e) = absurd cc
@@ -63,15 +58,13 @@ module _ (t : Target ℕ) (n : ℕ) (bytes : List ℕ) (is : n ≡ length bytes)
   sure = commit_for (of_size t (Some n)) bytes
 
   indexed_same : (key : Option (List ℕ)) → indexed free key ≡ indexed sure key
-  indexed_same None = refl
-  indexed_same (Some key) = refl
+  indexed_same key = grind (arith, common_steps)
 
   sized_same : sized free None ≡ sized sure (Some n)
   sized_same = indexed_same t.key ∙ sym (cond-true (n == length bytes) (indexed sure t.key) (ends_with (SizeMismatch n (length bytes))) (eq-eqb n (length bytes) is))
 
   compared_same : (expected : Option (List Hash)) → compared free expected ≡ compared sure expected
-  compared_same None = sized_same
-  compared_same (Some expected) = ap (λ (x : State). cond (matches expected free.computed) x (ends_with (IntegrityError (Check expected free.computed)))) sized_same
+  compared_same expected = grind (arith, sized_same)
 
   placed_same : placed free ≡ placed sure
   placed_same = compared_same t.options.integrity
@@ -173,5 +166,4 @@ module _ (t : Target ℕ) (r : Reply) where
 -- the same if no size is expected, or theirs is
 pub suited_run : (t : Target ℕ) (bytes rest : List ℕ) (moves : Moves) (r : Reply) → SuitsSize t.options.size (length (bytes ++ rest)) → OnDisks moves → Runs (hashing (to_link t) (opened rest) bytes) moves r
     → Runs (hashing (to_link (with_size t (length (bytes ++ rest)))) (opened rest) bytes) moves r
-suited_run t bytes rest moves r (inl none) disks run = sized_run t r bytes rest moves disks (subst (λ x. Runs (hashing (to_link x) (opened rest) bytes) moves r) (size_is t None none) run)
-suited_run t bytes rest moves r (inr some) disks run = subst (λ x. Runs (hashing (to_link x) (opened rest) bytes) moves r) (size_is t (Some (length (bytes ++ rest))) some) run
+suited_run t bytes rest moves r h disks run = grind (arith, sized_run, size_is)

@@ -1,5 +1,5 @@
 -- What a link leaves: its bytes are those that the target shows, and its deeds are those of its commit.
-use Rattle.std.proofs.Common.{◌≡◌, ◌⊎◌, inl, inr, ℕ, true, false, List, [], ◌∷◌, ◌++◌, ◌||◌, Option, None, Some, Result, Ok, Err, length, map, refl, sym, ap, subst, ◌∙◌}
+use Rattle.std.proofs.Common.{arith, rules, ◌≡◌, ◌⊎◌, inl, inr, ℕ, true, false, List, [], ◌∷◌, ◌++◌, ◌||◌, Option, None, Some, Result, Ok, Err, length, map, refl, sym, ap, subst, ◌∙◌}
 use Rattle.cacache_core.specs.{declared.{errors.{Error.TheVariants.{IoError}, Fault.{Fault}}, integrity.digest.Hash.{Hash}}, PathNames.{Names, home_of, names_of}}
 use Rattle.cacache_core.specs.declared.errors.Fault.TheVariants as faults
 use Rattle.cacache_store.specs.declared.store.answer.Answer.TheVariants as answers
@@ -25,11 +25,7 @@ on_disks t (m ∷ moves) h = ((t, Plain, h.0), on_disks (apply t m.0 Plain).1 mo
 
 pub opened_held : (t : Tree) (path held : List ℕ) (file : PlainFile) → shown t path ≡ Some held → answers.File file ≡ (apply t (steps.Open path) Plain).0 → file.bytes ≡ Some held
 unfolding apply
-opened_held t path held file = by (file_at t path faults.IsADirectory)
-  where
-    by : (r : Result (List ℕ) Fault) → bytes_told (unless r t (λ b. (answers.Bytes b, t))).0 ≡ Some held → answers.File file ≡ (unless r t (λ b. (answers.File (opened b), t))).0 → file.bytes ≡ Some held
-    by (Ok bytes) shows e = let is : file ≡ opened bytes = cc in ap (λ (f : PlainFile). f.bytes) is ∙ shows
-    by (Err fault) shows e = absurd cc
+opened_held t path held file = search rules
 
 -- what holds of the bytes that were read holds of these
 read_held : (t : Tree) (path held : List ℕ) (P : List ℕ → Type 0) (moves : Moves) → shown t path ≡ Some held → AreAnswered t moves → EachAsks moves → ReadsTarget path P moves → P held
@@ -96,8 +92,7 @@ setup_to cache base path = record { cache = cache; base = base; outside = (path,
 
 -- the file lies outside
 pub is_there : (path : List ℕ) (names : Names) (r : Result Names Fault) → r ≡ Ok names → (same_place r r || false) ≡ true
-is_there path names (Ok other) is = ap (λ b. b || false) (same_self other)
-is_there path names (Err fault) is = absurd cc
+is_there path names r is = grind (arith, same_self)
 
 -- what a call leaves if its target shows these bytes
 module _ (cache : List ℕ) (l : Link) (base : List ℕ) (number : ℕ) (moves : Moves) (r : Reply) (old new : List LogItem)
@@ -106,8 +101,7 @@ module _ (cache : List ℕ) (l : Link) (base : List ℕ) (number : ℕ) (moves :
     (leads : tree_of new ≡ tree_on (tree_of old) moves)
     (held : List ℕ) (expects : ExpectsIntegrity (put_like l held)) (shows : shown (tree_of old) (based base l.target) ≡ Some held) where
   target_follows : Alike (value_of_tree (home_of cache) (tree_of new)) (after_deeds (home_of cache) (deeds (turns_on (tree_of old) moves)) (value_of_tree (home_of cache) (tree_of old)))
-  target_follows =
-      subst (λ t. Alike (value_of_tree (home_of cache) t) (after_deeds (home_of cache) (deeds (turns_on (tree_of old) moves)) (value_of_tree (home_of cache) (tree_of old)))) (sym leads) answers.follows
+  target_follows = search rules
 
   asks_pieces : EachAsks moves
   asks_pieces = run_asks (opening (record { cache = cache; base = base; number = number }) (commands.Link l)) moves r run

@@ -1,5 +1,6 @@
 -- What the commit of a linker leaves: it reads the rest of what its target showed, and makes the link.
-use Rattle.std.{proofs.Common.{◌≡◌, inl, inr, ◌<◌, ◌^◌, ℕ, List, [], ◌∷◌, ◌++◌, Some, Result, Ok, Err, length, refl, sym, ap, subst, ◌∙◌, append-nil}, specs.Prelude.{IfSome}}
+use Rattle.std.proofs.Common.{arith, rules, ◌≡◌, inl, inr, ◌<◌, ◌^◌, ℕ, List, [], ◌∷◌, ◌++◌, Some, Result, Ok, Err, length, refl, sym, ap, subst, ◌∙◌, append-nil}
+use Rattle.std.specs.Prelude.{IfSome}
 use Rattle.cacache_core.specs.{declared.{errors.Fault.{Fault}, integrity.digest.Hash.{Hash}}, Integrity.{IsIntegrity}, PathNames.{Names, home_of, names_of}}
 use Rattle.cacache_store.specs.declared.store.answer.Answer.TheVariants as answers
 use Rattle.cacache_store.specs.declared.store.{log.LogItem.{LogItem}, plain.PlainFile.{PlainFile}}
@@ -55,14 +56,7 @@ module _ (cache base : List ℕ) (l : Link) (bytes rest : List ℕ) (first : Pla
   first_is = file_held (tree_of o.old) path held first o.shows open_told
 
   opening_answered : AreAnswered (tree_of o.old) opened_by
-  opening_answered = (
-    told_held (tree_of o.old) path held o.shows,
-    (
-      subst (λ t. answers.File (opened held) ≡ (apply t (steps.Open path) Plain).0) (sym (sizing_keeps (tree_of o.old) path))
-          (subst (λ f. answers.File f ≡ (apply (tree_of o.old) (steps.Open path) Plain).0) first_is open_told),
-      tt,
-    ),
-  )
+  opening_answered = search (rules, told_held, sizing_keeps, first_is, open_told)
 
   opening_goes : Goes (opening site (commands.Link l)) opened_by (hashing (to_link target) (opened held) [])
   opening_goes = (refl, tt, (refl, subst (λ (f : PlainFile). f.left < 2 ^ 64) first_is o.small, refl))
@@ -99,9 +93,7 @@ module _ (cache base : List ℕ) (l : Link) (bytes rest : List ℕ) (first : Pla
 
     -- the steps of all parts are a run of a link
     whole : Runs (opening site (commands.Link l)) (moves_in call.parts) r
-    whole =
-        subst (λ ms. Runs (opening site (commands.Link l)) ms r) (sym (moves_then taken.parts (tree_of old) moves))
-        (goes_runs (opening site (commands.Link l)) (hashing (to_link target) (opened rest) bytes) (moves_in taken.parts) moves r reads.1.goes run)
+    whole = search (rules, moves_then, goes_runs, reads)
 
     -- and what they read is what the target showed
     read_so : ReadOf held (moves_in call.parts)
@@ -111,11 +103,7 @@ module _ (cache base : List ℕ) (l : Link) (bytes rest : List ℕ) (first : Pla
         (refl, parts_on_disks s (reads.0 ++ made (tree_of old) moves ∷ []) way.parts.2, (run_asks (opening site (commands.Link l)) (moves_in call.parts) r whole).1.1)
 
     own_deeds : deeds (turns_in call.parts) ≡ deeds (turns_on (tree_of old) moves)
-    own_deeds =
-        deeds_later (turns_on (tree_of o.old) opened_by) (turns_in (reads.0 ++ made (tree_of old) moves ∷ [])) refl
-        ∙ ap deeds (turns_more reads.0 (made (tree_of old) moves ∷ []))
-        ∙ deeds_later (turns_in reads.0) (turns_on (tree_of old) moves ++ []) reads.2
-        ∙ ap deeds (append-nil (turns_on (tree_of old) moves))
+    own_deeds = search (rules, deeds_later, reads, turns_more)
 
     commits : CommitsAs (put_commit cache (put_like l held)) (λ names. PutLink names path) (deeds (turns_on (tree_of old) moves)) (Some r)
     commits =
@@ -145,9 +133,7 @@ module _ (cache base : List ℕ) (l : Link) (bytes rest : List ℕ) (first : Pla
     )
 
     taken_faultless : (fault : Fault) → Faulted (moves_in taken.parts) fault → ⊥
-    taken_faultless fault (inl h) = h
-    taken_faultless fault (inr (inl h)) = h
-    taken_faultless fault (inr (inr h)) = reads.3 fault h
+    taken_faultless fault h = grind (arith, reads)
 
     -- an `IoError` has its cause among the steps of the commit
     cause : HasCause (own_of (commands.Link l)) moves (plain_reply r)

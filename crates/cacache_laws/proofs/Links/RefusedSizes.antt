@@ -1,5 +1,5 @@
 -- The commit of a linker that expects another size than its target's.
-use Rattle.std.proofs.{Common.{◌≡◌, inl, inr, ◌==◌, ℕ, Bool, true, false, cond, List, [], ◌∷◌, ◌++◌, Option, None, Some, length, take, drop, refl, sym, ap, subst, ◌∙◌, arith, append_assoc, append-nil, take-append-drop, eqb-true}, lemmas.List.{length-take, nil_from_length}}
+use Rattle.std.proofs.{lemmas.{Grind.{common_steps}, List.{length-take, nil_from_length}}, Common.{◌≡◌, inl, inr, ◌==◌, ℕ, Bool, true, false, cond, List, [], ◌∷◌, ◌++◌, Option, None, Some, length, take, drop, refl, sym, ap, subst, ◌∙◌, arith, append_assoc, append-nil, take-append-drop, eqb-true}}
 use Rattle.cacache_core.specs.declared.{errors.{Error.TheVariants.{IntegrityError, IoError, OutOfMemory, SizeMismatch}, Fault.{Fault}, IntegrityFault.TheVariants.{Check}}, integrity.digest.Hash.{Hash}}
 use Rattle.cacache_core.specs.declared.errors.Fault.TheVariants as faults
 use Rattle.cacache_store.specs.declared.store.answer.Answer.TheVariants as answers
@@ -19,16 +19,10 @@ IsRefusal (over r) = IsRefused r
 IsRefusal s = ⊥
 
 sized_refused : (c : Commit) (n : ℕ) → (n ≡ c.count → ⊥) → (b : Bool) → (n == c.count) ≡ b → IsRefusal (cond b (indexed c c.key) (ends_with (SizeMismatch n c.count)))
-sized_refused c n differ true is = absurd (differ (eqb-true n c.count is))
-sized_refused c n differ false is = tt
+sized_refused c n differ b is = grind (arith, common_steps)
 
 compared_refused : (c : Commit) (n : ℕ) → c.options.size ≡ Some n → (n ≡ c.count → ⊥) → (expected : Option (List Hash)) → IsRefusal (compared c expected)
-compared_refused c n is differ None = subst (λ size. IsRefusal (sized c size)) (sym is) (sized_refused c n differ (n == c.count) refl)
-compared_refused c n is differ (Some expected) = by (matches expected c.computed)
-  where
-    by : (b : Bool) → IsRefusal (cond b (sized c c.options.size) (ends_with (IntegrityError (Check expected c.computed))))
-    by true = subst (λ size. IsRefusal (sized c size)) (sym is) (sized_refused c n differ (n == c.count) refl)
-    by false = tt
+compared_refused c n is differ expected = grind (arith, sized_refused)
 
 -- ---- the same moves as those of a link that expects nothing, until memory is refused
 
@@ -58,8 +52,7 @@ module _ (r : Reply) where
     other = commit_for (bare t) held
 
     confirmed : (fault : Fault) (answer : PlainAnswer) → IsRefusal (after (confirming one fault) answer)
-    confirmed fault (answers.There true) = refused
-    confirmed fault answer = tt
+    confirmed fault answer = grind (arith, common_steps)
 
     confirming_stops : (fault : Fault) (moves : Moves) → Runs (confirming one fault) moves r → Stops (confirming other fault) moves
     confirming_stops fault [] (inl e) = absurd cc

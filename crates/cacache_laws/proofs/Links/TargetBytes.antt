@@ -1,6 +1,6 @@
 -- What a linker's target showed when it was opened, and what its opening leaves.
 -- If a link lies there, a read shows what its target shows.
-use Rattle.std.proofs.Common.{◌≡◌, ◌⊎◌, inl, inr, ℕ, List, [], ◌∷◌, ◌++◌, Some, Result, Ok, Err, length, map, refl, sym, ap, subst, ◌∙◌, append_assoc, zero, suc, Option, None}
+use Rattle.std.proofs.Common.{arith, rules, ◌≡◌, ◌⊎◌, inl, inr, ℕ, List, [], ◌∷◌, ◌++◌, Some, Result, Ok, Err, length, map, refl, sym, ap, subst, ◌∙◌, append_assoc, zero, suc, Option, None}
 use Rattle.cacache_core.specs.{declared.errors.{Error.{Error, TheVariants.{IoError, OutOfMemory}}, Fault.{Fault}}, PathNames.{home_of, Names}}
 use Rattle.cacache_store.specs.{declared.store.{log.LogItem.{LogItem, TheVariants.{Made}}, plain.PlainFile.{PlainFile}}, Plain.{PlainStep, PlainAnswer}}
 use Rattle.cacache_disk.specs.{declared.{luck.Luck.{TheVariants.{Plain, Take}, Luck}, node.Node.{Node, TheVariants.{Link}}}, Tree.{Tree, look}, Apply.{apply, opened, unless}, LedTo.{file_at, and_then, bytes_there, followed, leads, on_link, place, standing, where_there}, memory.Replay.{IsLog, bytes_told, shown, tree_of}}
@@ -30,11 +30,7 @@ held_of path held P moves good read =
 
 pub told_held : (t : Tree) (path held : List ℕ) → shown t path ≡ Some held → answers.Length (length held) ≡ (apply t (steps.Size path) Plain).0
 unfolding apply
-told_held t path held = by (file_at t path faults.IsADirectory)
-  where
-    by : (r : Result (List ℕ) Fault) → bytes_told (unless r t (λ b. (answers.Bytes b, t))).0 ≡ Some held → answers.Length (length held) ≡ (unless r t (λ b. (answers.Length (length b), t))).0
-    by (Ok bytes) shows = let is : bytes ≡ held = cc in ap (λ (b : List ℕ). answers.Length (length b)) (sym is)
-    by (Err fault) shows = absurd cc
+told_held t path held = search rules
 
 pub file_held : (t : Tree) (path held : List ℕ) (file : PlainFile) → shown t path ≡ Some held → answers.File file ≡ (apply t (steps.Open path) Plain).0 → file ≡ opened held
 file_held t path held file shows told =
@@ -47,11 +43,7 @@ file_held t path held file shows told =
 -- a file that can be opened shows its bytes
 opened_shows : (t : Tree) (path bytes : List ℕ) → answers.File (opened bytes) ≡ (apply t (steps.Open path) Plain).0 → shown t path ≡ Some bytes
 unfolding apply
-opened_shows t path bytes = by (file_at t path faults.IsADirectory)
-  where
-    by : (r : Result (List ℕ) Fault) → answers.File (opened bytes) ≡ (unless r t (λ b. (answers.File (opened b), t))).0 → bytes_told (unless r t (λ b. (answers.Bytes b, t))).0 ≡ Some bytes
-    by (Ok b) e = let is : opened bytes ≡ opened b = cc in sym (ap (λ (f : PlainFile). f.bytes) is)
-    by (Err fault) e = absurd cc
+opened_shows t path bytes = search rules
 
 pub parts_on_disks : (s : Setup) (parts : List Part) → AreParts s parts → OnDisks (moves_in parts)
 parts_on_disks s [] h = tt
@@ -66,8 +58,7 @@ turns_more (took t file ∷ parts) more = ap (λ l. turn_of t (Take 1) (byte_rea
 -- ---- an opening
 
 pub target_opened : (path : List ℕ) (r : Result PlainFile Error) (old new : List LogItem) → OpensTarget path r (Some old) (Some new) → Opened path r old new
-target_opened path (Err e) old new h = errs path old new e h
-target_opened path (Ok file) old new h = opens_file path old new file h
+target_opened path r old new h = grind (arith, errs, opens_file)
 
 gives_target : (cache path : List ℕ) (r : Result PlainFile Error) (old new : List LogItem) → IsCache cache old → OpensTarget path r (Some old) (Some new) → Opened path r old new → IsLog new
     → GivesTarget cache path r old new
@@ -149,11 +140,7 @@ module _ (t : Tree) where
   -- names that lead to an end through so many links at most do so through one more
   one_more : (most : ℕ) (names end : Names) → followed most t names ≡ Ok end → followed (suc most) t names ≡ Ok end
   unfolding followed
-  one_more zero names end e = by (look t names) e
-    where
-      by : (o : Option Node) → on_link o names (λ target. Err faults.TooDeep) ≡ Ok end → on_link o names (λ target. and_then (standing t target) (followed zero t)) ≡ Ok end
-      by (Some (Link target)) e = absurd cc
-      by o e = e
+  one_more zero names end e = search rules
   one_more (suc most) names end e = by (λ found. one_more most found end) (look t names) e
     where
       next : ((found : Names) → followed most t found ≡ Ok end → followed (suc most) t found ≡ Ok end) → (r : Result Names Fault) → and_then r (followed most t) ≡ Ok end → and_then r (followed (suc most) t) ≡ Ok end
@@ -168,35 +155,16 @@ module _ (t : Tree) where
   -- what is at a path is at its place
   stands_at : (path : List ℕ) (names : Names) → standing t path ≡ Ok names → place t path ≡ Ok names
   unfolding standing
-  stands_at path names = by (place t path)
-    where
-      here : (o : Option Node) (found : Names) → where_there o found ≡ Ok names → found ≡ names
-      here None found e = absurd cc
-      here (Some node) found e = cc
-
-      by : (r : Result Names Fault) → and_then r (λ ns. where_there (look t ns) ns) ≡ Ok names → r ≡ Ok names
-      by (Ok found) e = ap Ok (here (look t found) found e)
-      by (Err fault) e = absurd cc
+  stands_at path names = search rules
 
   -- the target of a link leads to the link's end
   ends_so : (target : List ℕ) (end : Names) → link_end t target ≡ Ok end → leads t target ≡ Ok end
   unfolding link_end leads
-  ends_so target end e = by (standing t target) refl e
-    where
-      by : (r : Result Names Fault) → standing t target ≡ r → and_then r (followed 15 t) ≡ Ok end → and_then (place t target) (followed 16 t) ≡ Ok end
-      by (Err fault) is e = absurd cc
-      by (Ok names) is e = ap (λ r. and_then r (followed 16 t)) (stands_at target names is) ∙ one_more 15 names end e
+  ends_so target end e = search (rules, stands_at, one_more)
 
   shows_so : (target bytes : List ℕ) → blob_bytes t (Some (AtLink target)) ≡ Ok bytes → shown t target ≡ Some bytes
   unfolding apply file_at
-  shows_so target bytes e = by (link_end t target) refl e
-    where
-      by : (r : Result Names Fault) → link_end t target ≡ r → and_then r (λ names. bytes_there faults.IsADirectory (look t names)) ≡ Ok bytes
-          → bytes_told (unless (and_then (leads t target) (λ names. bytes_there faults.IsADirectory (look t names))) t (λ b. (answers.Bytes b, t))).0 ≡ Some bytes
-      by (Err fault) is e = absurd cc
-      by (Ok end) is e =
-          ap (λ r. bytes_told (unless (and_then r (λ names. bytes_there faults.IsADirectory (look t names))) t (λ b. (answers.Bytes b, t))).0) (ends_so target end is)
-          ∙ ap (λ r. bytes_told (unless r t (λ b. (answers.Bytes b, t))).0) e
+  shows_so target bytes e = search (rules, ends_so)
 
 pub links_show : LinksShow
 links_show cache target bytes held i log lies shows reads =

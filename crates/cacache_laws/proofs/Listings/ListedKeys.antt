@@ -1,5 +1,5 @@
 -- What a listing of a cache answers, by what the keys lead to.
-use Rattle.std.proofs.{Common.{◌≡◌, ◌⊎◌, inl, inr, ℕ, Bool, true, false, cond, List, [], ◌∷◌, ◌++◌, Ok, Err, take, refl, sym, subst, ◌∙◌}, lemmas.List.Elements.{All-nil, All-cons, All-append, All-take}}
+use Rattle.std.proofs.{Common.{arith, ◌≡◌, ◌⊎◌, inl, inr, ℕ, Bool, true, false, cond, List, [], ◌∷◌, ◌++◌, Ok, Err, take, refl, sym, subst, ◌∙◌}, lemmas.List.Elements.{All-nil, All-cons, All-append, All-take}}
 use Rattle.std.specs.Prelude.{All}
 use Rattle.cacache_core.specs.declared.errors.{Error.TheVariants.{OutOfMemory}, Fault.{Fault}}
 use Rattle.cacache_store.specs.declared.store.log.LogItem.{LogItem}
@@ -34,8 +34,7 @@ never_entries items h = h
 
 pub unless_past : (P : List Item → Type 0) (b : Bool) (items : List Item) → (b ≡ false → AreAllFound items → P items) → AreAllFound (cond b (take most items ++ too_deep ∷ []) items)
     → P (cond b (take most items ++ too_deep ∷ []) items)
-unless_past P true items h entries = absurd (never_entries (take most items) entries)
-unless_past P false items h entries = h refl entries
+unless_past P b items h entries = grind (arith, never_entries)
 
 module _ (cache base : List ℕ) (old new : List LogItem) (list : List Item) (sound : IsCache cache old) (k : Known cache base commands.Ls (replies.Listed list) old new) where
   abbrev turns : List Turn

@@ -1,5 +1,5 @@
 -- The items of a listing, if all of its turns find one tree.
-use Rattle.std.proofs.{Common.{◌≡◌, ◌⊎◌, inl, inr, ℕ, suc, Bool, true, false, cond, List, [], ◌∷◌, ◌++◌, Option, None, Some, Ok, Err, option_map, map, take, fold, refl, sym, ap, Result, subst, ◌∙◌}, lemmas.{List.Elements.{All-nil, All-cons, All-head, All-tail, All-append, All-take, All-weaker}, Slice.Eq.{bytes_eq-Decides}}}
+use Rattle.std.proofs.{Common.{arith, ◌≡◌, ◌⊎◌, inl, inr, ℕ, suc, Bool, true, false, cond, List, [], ◌∷◌, ◌++◌, Option, None, Some, Ok, Err, option_map, map, take, fold, refl, sym, ap, Result, subst, ◌∙◌}, lemmas.{Grind.{common_steps}, List.Elements.{All-nil, All-cons, All-head, All-tail, All-append, All-take, All-weaker}, Slice.Eq.{bytes_eq-Decides}}}
 use Rattle.std.specs.{Prelude.{All, bytes_eq, unwrap_or}, List.{filter_map, cons_option}}
 use Rattle.cacache_entry.specs.{Entry.{Entry}, Latest.{Found, answer_of, after_entry, latest}}
 use Rattle.cacache_calls.specs.{ListReplies.{In, keys_of, too_deep, by_folder}, State.{Item}, Walking.{once, items_of, failed}, declared.answers.Refusal.{Refusal}, Answers.{names_in}, Causes.{Faults, Faulted}, StepPaths.{bucket_path}}
@@ -46,8 +46,7 @@ once_front n items h = tt
 
 module _ (P : Item → Type 0) (entry : (f : Found) → P (Ok f)) (es : List Entry) where
   one_entry : (o : Option Found) (rest : List Item) → All P rest → All P (cons_option (option_map Ok o) rest)
-  one_entry None rest h = h
-  one_entry (Some f) rest h = All-cons P (Ok f) rest (entry f) h
+  one_entry o rest h = grind (arith, common_steps)
 
   each_entry : (ks : List (List ℕ)) → All P (filter_map (λ key. option_map Ok (latest key es)) ks)
   each_entry [] = All-nil P
@@ -85,8 +84,7 @@ Explained Why (Ok f) = Unit {0}
 Explained Why (Err e) = (fault : Fault) × Why fault
 
 explained_later : (Why More : Fault → Type 0) → ((fault : Fault) → Why fault → More fault) → (item : Item) → Explained Why item → Explained More item
-explained_later Why More f (Ok found) h = tt
-explained_later Why More f (Err e) h = (h.0, f h.0 h.1)
+explained_later Why More f item h = grind (arith, common_steps)
 
 failed_so : (step : PlainStep) (fault : Fault) → All (Explained (Faults step (answers.Failed fault))) (failed fault ∷ [])
 failed_so step fault = All-cons (Explained (Faults step (answers.Failed fault))) (failed fault) [] (fault, refl) (All-nil (Explained (Faults step (answers.Failed fault))))
@@ -131,17 +129,13 @@ module _ (s : Setup) (t : Tree) where
   IsHere turn = turn.place ≡ t
 
   found_leads : (turn : Turn) → IsHere turn → (item : Item) → IsFound s turn item → Leads s t item
-  found_leads turn here (Ok f) h = ap (λ p. latest f.key (entries_on (home s) p f.key)) (sym here) ∙ h
-  found_leads turn here (Err e) h = tt
+  found_leads turn here item h = grind (arith, common_steps)
 
   folder_leads : (a : Result (List Name) Refusal) → All (Leads s t) (by_folder a)
-  folder_leads (Err (refusals.Fault fault)) = All-cons (Leads s t) (failed fault) [] tt (All-nil (Leads s t))
-  folder_leads a = All-nil (Leads s t)
+  folder_leads a = grind (arith, common_steps)
 
   turn_leads : (turn : Turn) (step : PlainStep) (items : List Item) → IsHere turn → TurnGives s turn step items → All (Leads s t) items
-  turn_leads turn (steps.ReadDir path) items here g = subst (All (Leads s t)) (sym g.1) (folder_leads (names_in turn.move.answer))
-  turn_leads turn (steps.ReadAll path) items here g = All-weaker (IsFound s turn) (Leads s t) (found_leads turn here) items g.3
-  turn_leads turn step items here g = absurd g
+  turn_leads turn step items here g = grind (arith, folder_leads, found_leads)
 
   pub turns_lead : (turns : List Turn) (items : List Item) → EachTurn IsHere turns → TurnsGive s turns items → All (Leads s t) items
   turns_lead [] items here g = subst (All (Leads s t)) (sym g) (All-nil (Leads s t))
@@ -155,8 +149,7 @@ IsGiven (answers.NoMemory back) = ⊥
 IsGiven other = Unit {0}
 
 unless_given : {A : Type 0} (t : Tree) (answer : A → PlainAnswer) → ((x : A) → IsGiven (answer x)) → (r : Result A Fault) → IsGiven (unless r t (λ x. (answer x, t))).0
-unless_given t answer given (Ok x) = given x
-unless_given t answer given (Err fault) = tt
+unless_given t answer given r = grind (arith, common_steps)
 
 module _ (s : Setup) (turn : Turn) (holds : TurnHolds s turn) (path : List ℕ) where
   folder_given : turn.move.step ≡ steps.ReadDir path → IsGiven turn.move.answer
@@ -174,15 +167,10 @@ module _ (s : Setup) (turn : Turn) (holds : TurnHolds s turn) (path : List ℕ) 
 -- ---- what fails gives an error
 
 folder_errs : (a : PlainAnswer) (refusal : Refusal) → IsGiven a → names_in a ≡ Err refusal → AreAllFound (by_folder (names_in a)) → ⊥
-folder_errs (answers.Names names) refusal given is h = absurd cc
-folder_errs (answers.NoMemory back) refusal given is h = given
-folder_errs a refusal given is h = h
+folder_errs a refusal given is h = grind (arith, common_steps)
 
 bucket_errs : (es : List Entry) (a : PlainAnswer) (refusal : Refusal) → IsGiven a → shown_result a (Ok es) ≡ Err refusal → AreAllFound (by_entries (shown_result a (Ok es))) → ⊥
-bucket_errs es (answers.Failed faults.NotFound) refusal given is h = absurd cc
-bucket_errs es (answers.Failed fault) refusal given is h = h
-bucket_errs es (answers.NoMemory back) refusal given is h = given
-bucket_errs es other refusal given is h = absurd cc
+bucket_errs es a refusal given is h = grind (arith, common_steps)
 
 -- ---- what a key leads to is found
 
@@ -196,8 +184,7 @@ all_find s t key f leads = each_weaker (IsHere s t) (TurnFinds s key f) (λ turn
 
 module _ (s : Setup) (key : List ℕ) (f : Found) where
   is_bucket : (bucket : Option (List Entry)) → latest key (list_of bucket) ≡ Some f → (entries : List Entry) × (bucket ≡ Some entries)
-  is_bucket None h = absurd cc
-  is_bucket (Some entries) h = (entries, refl)
+  is_bucket bucket h = grind (arith, common_steps)
 
   pub has_bucket : (turns : List Turn) → EachTurn (TurnFinds s key f) turns → EachTurn (HasBucket s key) turns
   has_bucket [] finds = tt
@@ -225,8 +212,7 @@ module _ (s : Setup) (key : List ℕ) (f : Found) where
     folder_lists path items refusal is fails g entries = absurd (folder_errs turn.move.answer refusal (folder_given s turn holds path is) fails (subst AreAllFound g.1 entries))
 
     turn_lists : (items : List Item) → TurnGives s turn turn.move.step items → AreAllFound items → TurnReadsBucket s key turn ⊎ FailsAbove s key turn → In (Ok f) items
-    turn_lists items g entries (inl reads) = bucket_lists items reads (subst (λ step. TurnGives s turn step items) reads g) entries
-    turn_lists items g entries (inr fails) = folder_lists _ items fails.1 fails.2 fails.3 (subst (λ step. TurnGives s turn step items) fails.2 g) entries
+    turn_lists items g entries h = grind (arith, bucket_lists, folder_lists)
 
   pub turns_list : (turns : List Turn) (items : List Item) → TurnsHold s turns → EachTurn (TurnFinds s key f) turns → TurnsGive s turns items → AreAllFound items
       → AnyTurn (λ turn. TurnReadsBucket s key turn ⊎ FailsAbove s key turn) turns → In (Ok f) items

@@ -1,6 +1,6 @@
 -- An added entry leaves what other keys lead to, and all contents.
 -- What the deeds of a commit leave, whether it puts a file or a link.
-use Rattle.std.proofs.{Common.{◌≡◌, inl, inr, ℕ, Bool, true, false, cond, List, [], ◌∷◌, ◌++◌, Option, None, Some, refl, sym, ap, ◌∙◌, ◌⊎◌, option_map, subst}, lemmas.{List.{Sums.{fold-append}, Elements.{All-head}}, Slice.Eq.{bytes_eq-Decides}, Bool.{cond-true}}}
+use Rattle.std.proofs.{Common.{arith, rules, ◌≡◌, inl, inr, ℕ, Bool, true, false, cond, List, [], ◌∷◌, ◌++◌, Option, None, Some, refl, sym, ap, ◌∙◌, ◌⊎◌, option_map, subst}, lemmas.{Grind.{common_steps}, List.{Sums.{fold-append}, Elements.{All-head}}, Slice.Eq.{bytes_eq-Decides}, Bool.{cond-true}}}
 use Rattle.std.specs.{Prelude.{bytes_eq, IfSome}, Option.{unwrap_or}}
 use Rattle.sha1.specs.Sha1.{sha1}
 use Rattle.cacache_core.specs.{declared.integrity.digest.Hash.{Hash}, Integrity.{address, IsHash, IsIntegrity}, Paths.{bucket_names_of, content_names}, PathNames.{Names, home_of, names_of}}
@@ -19,17 +19,14 @@ use Rattle.cacache_laws.proofs.{Putting.Stored.{adds_entry, below_is, first_deed
 
 -- an entry of another key answers nothing
 other_answers : (other : List ℕ) (e : Entry) → (other ≡ e.key → ⊥) → answer_to other e ≡ None
-other_answers other e differ =
-    ap (λ b. cond b (answer_of e e.integrity) None)
-    (not_true (bytes_eq e.key other) (λ same. differ (sym ((bytes_eq-Decides e.key other).0 same))))
+other_answers other e differ = search (rules, not_true)
 
 one_more : (other : List ℕ) (es : List Entry) (e : Entry) → (other ≡ e.key → ⊥) → latest other (es ++ e ∷ []) ≡ latest other es
 one_more other es e differ =
     fold-append (after_entry other) None es (e ∷ []) ∙ ap (λ a. unwrap_or a (latest other es)) (other_answers other e differ)
 
 perhaps_more : (other : List ℕ) (b : Bool) (o : Option (List Entry)) (e : Entry) → (other ≡ e.key → ⊥) → latest other (list_of (cond b (Some (list_of o ++ e ∷ [])) o)) ≡ latest other (list_of o)
-perhaps_more other true o e differ = one_more other (list_of o) e differ
-perhaps_more other false o e differ = refl
+perhaps_more other b o e differ = grind (arith, one_more)
 
 -- ---- values
 
@@ -43,19 +40,14 @@ SameContents v w = (a : Hash) → w.contents a ≡ v.contents a
 
 module _ (home : Option Names) (i : Insertion) where
   added_lookups : (d : Deed) (v : Value) → IsAdded i d → SameLookups i.entry.key v (after_deeds home (d ∷ []) v)
-  added_lookups (finds path) v is = absurd is
-  added_lookups (does act) v is = λ other differ.
-      ap (λ x. latest other (list_of ((change home x v).buckets (sha1 other)))) is.2
-      ∙ perhaps_more other (is_path_of home (bucket_names_of (sha1 other)) is.0) (v.buckets (sha1 other)) i.entry differ
+  added_lookups d v is = grind (arith, perhaps_more)
 
   added_contents : (d : Deed) (v : Value) → IsAdded i d → SameContents v (after_deeds home (d ∷ []) v)
   added_contents (finds path) v is = absurd is
   added_contents (does act) v is = λ a. ap (λ x. (change home x v).contents a) is.2
 
   pub adds_lookups : (ds : List Deed) (reply : Option Reply) (v : Value) → InsertionAdds i ds reply → SameLookups i.entry.key v (after_deeds home ds v)
-  adds_lookups ds reply v (inl h) = λ other differ. ap (λ (x : List Deed). latest other (list_of ((after_deeds home x v).buckets (sha1 other)))) h.0
-  adds_lookups ds reply v (inr h) = λ other differ.
-      ap (λ (x : List Deed). latest other (list_of ((after_deeds home x v).buckets (sha1 other)))) h.2 ∙ added_lookups h.0 v h.1 other differ
+  adds_lookups ds reply v h = grind (arith, added_lookups)
 
   pub adds_contents : (ds : List Deed) (reply : Option Reply) (v : Value) → InsertionAdds i ds reply → SameContents v (after_deeds home ds v)
   adds_contents ds reply v (inl h) = λ a. ap (λ (x : List Deed). (after_deeds home x v).contents a) h.0
@@ -67,8 +59,7 @@ pub alike_lookup : (other : List ℕ) (v w : Value) → Alike w v → latest oth
 alike_lookup other v w alike = ap (latest other) (alike.lists (sha1 other))
 
 at_address : (v w : Value) (o : Option Hash) → ((a : Hash) → w.contents a ≡ v.contents a) → blob_at w o ≡ blob_at v o
-at_address v w None h = refl
-at_address v w (Some a) h = h a
+at_address v w o h = grind (arith, common_steps)
 
 module _ (cache : List ℕ) (old new : List LogItem) where
   -- a content that stays the same at its place
@@ -124,12 +115,10 @@ put_of (AtLink path) names = PutLink names path
 
 put_contents : (folder : Option Names) (names : Names) (blob : Blob) (v : Value) (a : Hash)
     → (change folder (put_of blob names) v).contents a ≡ cond (is_path_of folder (content_names a) names) (Some blob) (v.contents a)
-put_contents folder names (InFile bytes) v a = refl
-put_contents folder names (AtLink path) v a = refl
+put_contents folder names blob v a = grind (arith, common_steps)
 
 put_buckets : (folder : Option Names) (names : Names) (blob : Blob) (v : Value) (digest : List ℕ) → (change folder (put_of blob names) v).buckets digest ≡ v.buckets digest
-put_buckets folder names (InFile bytes) v digest = refl
-put_buckets folder names (AtLink path) v digest = refl
+put_buckets folder names blob v digest = grind (arith, common_steps)
 
 -- ---- values
 
@@ -158,8 +147,7 @@ module _ (cache : List ℕ) (p : Put) (blob : Blob) where
   Kept a old new = (new ≡ old) ⊎ ((a ≡ own_hash p) × (new ≡ Some blob))
 
   by_place : (a : Hash) (old : Option Blob) (b : Bool) → (b ≡ true → a ≡ own_hash p) → Kept a old (cond b (Some blob) old)
-  by_place a old true here = inr (here refl, refl)
-  by_place a old false here = inl refl
+  by_place a old b here = grind (arith, common_steps)
 
   -- it goes to the address of its bytes
   first_content : (d : Deed) (v : Value) → IsFirst d → (a : Hash) → IsHash a → Kept a (v.contents a) ((after_deeds (home_of cache) (d ∷ []) v).contents a)
@@ -171,18 +159,12 @@ module _ (cache : List ℕ) (p : Put) (blob : Blob) where
       (λ here. one_address cache (home_of cache) (own_hash p) a puts.0 (digest_hash p.options.algorithm p.data) is below here))
 
   first_entries : (d : Deed) (v : Value) (digest : List ℕ) → IsFirst d → (after_deeds (home_of cache) (d ∷ []) v).buckets digest ≡ v.buckets digest
-  first_entries (finds path) v digest puts = refl
-  first_entries (does act) v digest puts = ap (λ x. (change (home_of cache) x v).buckets digest) puts.2 ∙ put_buckets (home_of cache) puts.0 blob v digest
+  first_entries d v digest puts = grind (arith, put_buckets)
 
   module _ (ds : List Deed) (reply : Option Reply) (v : Value) where
     lookups : PutsIt ds reply → (other : List ℕ) → IsOther p.key other
         → latest other (list_of ((after_deeds (home_of cache) ds v).buckets (sha1 other))) ≡ latest other (list_of (v.buckets (sha1 other)))
-    lookups (inl h) other differ = ap (λ (x : List Deed). latest other (list_of ((after_deeds (home_of cache) x v).buckets (sha1 other)))) h.0
-    lookups (inr h) other differ =
-        ap (λ (x : List Deed). latest other (list_of ((after_deeds (home_of cache) x v).buckets (sha1 other)))) h.3
-        ∙ ap (λ (w : Value). latest other (list_of (w.buckets (sha1 other)))) (first_deed (home_of cache) h.0 h.1 v)
-        ∙ later_lookups cache p p.key h.1 reply (after_deeds (home_of cache) (h.0 ∷ []) v) h.4 other differ
-        ∙ ap (λ o. latest other (list_of o)) (first_entries h.0 v (sha1 other) h.2)
+    lookups h other differ = grind (arith, first_deed, later_lookups, first_entries)
 
     -- what the first deed left at an address is there in the end
     first_last : (d : Deed) (more : List Deed) → ds ≡ d ∷ more → AddsAfter (put_commit cache p) p.key more reply → (a : Hash)
@@ -272,11 +254,7 @@ module _ (cache : List ℕ) (p : Put) (blob : Blob) (old new : List LogItem) (ds
       alike_lookup other (after_deeds (home_of cache) ds v) (value_of_tree (home_of cache) (tree_of new)) follows ∙ lookups cache p blob ds reply v commits other differ
 
   pub may_lead : ExpectsIntegrity p → MayLeadToPut cache p old new
-  may_lead expects key keyed =
-      elim (bucket_entries cache p blob ds reply v key keyed commits) [
-        | inl same ↦ inl (ap (latest key) (follows.lists (sha1 key) ∙ same.0))
-        | inr more ↦ inr (led_by cache p expects old new key (follows.lists (sha1 key) ∙ more))
-      ]
+  may_lead expects key keyed = search (rules, bucket_entries, led_by)
 
   pub commit_leads : ExpectsIntegrity p → (IsNotOk reply → ⊥) → LeadsToPut cache p new
   commit_leads expects ok key keyed =

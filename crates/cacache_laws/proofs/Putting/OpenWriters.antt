@@ -1,6 +1,6 @@
 -- What the opening of a writer leaves in a cache.
 -- What the commit of a writer leaves in a cache.
-use Rattle.std.proofs.Common.{◌≡◌, ◌⊎◌, inl, inr, ℕ, false, List, [], ◌∷◌, ◌++◌, Option, None, Some, Result, Ok, Err, map, refl, sym, ap, subst, ◌∙◌, append-nil, append_assoc}
+use Rattle.std.proofs.{Common.{arith, rules, ◌≡◌, ◌⊎◌, inl, inr, ℕ, false, List, [], ◌∷◌, ◌++◌, Option, None, Some, Result, Ok, Err, map, refl, sym, ap, subst, ◌∙◌, append-nil, append_assoc}, lemmas.Grind.{common_steps}}
 use Rattle.serde_json.specs.Data.{null}
 use Rattle.cacache_core.specs.{declared.{errors.{Error.{Error, TheVariants.{IoError, OutOfMemory}}, Fault.{Fault}}, integrity.{algorithm.Algorithm.TheVariants.{Sha256}, digest.Hash.{Hash}}}, PathNames.{Names, names_of, home_of}, Integrity.{IsHash}}
 use Rattle.cacache_store.specs.{declared.store.{log.LogItem.{LogItem, TheVariants.{Made}}, plain.PlainTemp.{PlainTemp}}, Plain.{PlainAnswer}}
@@ -19,8 +19,7 @@ use Rattle.cacache_calls.specs.declared.reply.Reply.TheVariants as replies
 -- ---- logs
 
 pub gains_none : (old : Option (List LogItem)) (new : List LogItem) → Some new ≡ old → Gains old (Some new) []
-gains_none None new same = absurd cc
-gains_none (Some log) new same = same ∙ ap Some (sym (append-nil log))
+gains_none old new same = grind (arith, common_steps)
 
 pub gains_grow : (old new : List LogItem) (moves : Moves) → Gains (Some old) (Some new) moves → Grows old new
 gains_grow old new moves g = (moves, some_same new (old ++ map (λ m. Made m.0 m.1) moves) g)
@@ -28,28 +27,20 @@ gains_grow old new moves g = (moves, some_same new (old ++ map (λ m. Made m.0 m
 -- an error that a step of these excuses
 pub excused_step : (old new : List LogItem) (moves : Moves) → Gains (Some old) (Some new) moves → (e : Error) (fault : Fault) → Faulted moves fault
     → (e ≡ OutOfMemory) ⊎ ((message : List ℕ) × (e ≡ IoError fault message)) → IsExcused e old new
-excused_step old new moves g e fault h (inl is) = inl is
-excused_step old new moves g e fault h (inr is) = inr (moves, some_same new (old ++ map (λ m. Made m.0 m.1) moves) g, fault, h)
+excused_step old new moves g e fault h h2 = grind (arith, some_same)
 
 -- ---- the deeds of an opening
 
 folders_made : (r : Result Names Fault) (count : Names → Option ℕ) → deeds_of_act (act_at r (λ names. act_with (count names) (MakeFolders names))) ≡ []
-folders_made (Err fault) count = refl
-folders_made (Ok names) count = by (count names)
-  where
-    by : (o : Option ℕ) → deeds_of_act (act_with o (MakeFolders names)) ≡ []
-    by None = refl
-    by (Some n) = refl
+folders_made r count = grind (arith, common_steps)
 
 pub folder_first : (t : Tree) (path : List ℕ) (a : PlainAnswer) (more : Moves) → deeds (turns_on (apply t (steps.MakeDirs path) Plain).1 more) ≡ []
     → deeds (turns_on t ((steps.MakeDirs path, a) ∷ more)) ≡ []
-folder_first t path a more none =
-    ap (λ l. (l ++ []) ++ deeds (turns_on (apply t (steps.MakeDirs path) Plain).1 more)) (folders_made (names_of path) (λ names. folders_left names Plain a)) ∙ none
+folder_first t path a more none = search (rules, folders_made)
 
 made_so : (t : Tree) (path : List ℕ) (new : Names → Tree) (r : Result Names Fault) (file : PlainTemp) → answers.Temp file ≡ (unless r t (λ names. (answers.Temp (made_temp path), new names))).0
     → file ≡ made_temp path
-made_so t path new (Ok names) file e = cc
-made_so t path new (Err fault) file e = absurd cc
+made_so t path new r file e = grind (arith, common_steps)
 
 pub temp_made : (t : Tree) (path : List ℕ) (file : PlainTemp) → answers.Temp file ≡ (apply t (steps.CreateTemp path) Plain).0 → file ≡ made_temp path
 unfolding apply
@@ -95,8 +86,7 @@ module _ (cache : List ℕ) (number : ℕ) (old new : List LogItem) where
 
   folder_errs : (e : Error) → FailsAt (make_folder cache number) e (Some old) (Some new) → Fails e
   folder_errs (IoError fault message) h = folder_fails (IoError fault message) fault (inr (message, refl)) h
-  folder_errs OutOfMemory (inl same) =
-      (record { moves = []; next = opening (call_site (setup_at cache []) number) (commands.Put put_nothing); goes = refl; nothing = refl; gains = gains_none (Some old) new same }, inl refl)
+  folder_errs OutOfMemory (inl same) = search (rules, gains_none)
   folder_errs OutOfMemory (inr h) = folder_fails OutOfMemory h.0 (inl refl) h.1
   folder_errs e h = absurd h
 
@@ -130,8 +120,7 @@ module _ (cache : List ℕ) (number : ℕ) (old new : List LogItem) where
     file_errs e h = absurd h
 
   failed : (e : Error) → OpensWriter cache number (Err e) (Some old) (Some new) → Fails e
-  failed e (inl h) = folder_errs e h
-  failed e (inr h) = file_errs h.0 h.1 e h.2
+  failed e h = grind (arith, folder_errs, file_errs)
 
   -- one that opened the file
   opened_so : IsLog new → (file : PlainTemp) → OpensWriter cache number (Ok file) (Some old) (Some new) → Opening cache number old new × (file ≡ made_temp (temp_path cache number))
@@ -196,9 +185,7 @@ fault_later (m ∷ xs) ys fault none (inl h) = absurd (none (inl h))
 fault_later (m ∷ xs) ys fault none (inr h) = fault_later xs ys fault (λ later. none (inr later)) h
 
 pub cause_later : (own : Fault → Type 0) (xs ys : Moves) (r : Reply) → ((fault : Fault) → Faulted xs fault → ⊥) → HasCause own (xs ++ ys) r → HasCause own ys r
-cause_later own xs ys (replies.Refused (IoError fault message)) none (inl mine) = inl mine
-cause_later own xs ys (replies.Refused (IoError fault message)) none (inr h) = inr (fault_later xs ys fault (none fault) h)
-cause_later own xs ys other none h = tt
+cause_later own xs ys r none h = grind (arith, fault_later)
 
 -- what is known of a commit: all steps of its writer are a run of a put, and its own steps answer as a put does
 pub record Ended (cache : List ℕ) (p : Put) (number : ℕ) (r : Reply) (old new : List LogItem) : Type 0 where
@@ -220,9 +207,7 @@ module _ (cache : List ℕ) (p : Put) (number : ℕ) (may : (key : List ℕ) →
   opened_by = (make_folder cache number, answers.Done) ∷ (make_file cache number, answers.Temp (made_temp (temp_path cache number))) ∷ []
 
   opened_faultless : (fault : Fault) → Faulted opened_by fault → ⊥
-  opened_faultless fault (inl h) = h
-  opened_faultless fault (inr (inl h)) = h
-  opened_faultless fault (inr (inr h)) = h
+  opened_faultless fault h = grind (arith, common_steps)
 
   abbrev pub started : Begun
   started = record { command = commands.Put p; number = number; parts = [] }

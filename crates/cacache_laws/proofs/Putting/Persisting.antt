@@ -1,5 +1,5 @@
 -- The content of a put comes to its place: nothing keeps its temporary file from it.
-use Rattle.std.proofs.{Common.{◌≡◌, ◌==◌, ℕ, List, ◌∷◌, ◌++◌, Option, None, Some, Ok, nat_le, length, drop, refl, sym, ap, subst, ◌∙◌, arith, append_assoc}, lemmas.List.Elements.{All-nil, All-cons, All-head, All-tail}}
+use Rattle.std.proofs.{lemmas.{Grind.{common_steps}, List.Elements.{All-nil, All-cons, All-head, All-tail}}, Common.{rules, ◌≡◌, ◌==◌, ℕ, List, ◌∷◌, ◌++◌, Option, None, Some, Ok, nat_le, length, drop, refl, sym, ap, subst, ◌∙◌, arith, append_assoc}}
 use Rattle.std.specs.{Prelude.{All, []}, List.{AllByRecursion}}
 use Rattle.hex.specs.Hex.{encode_lower}
 use Rattle.cacache_core.specs.declared.errors.Fault.TheVariants as faults
@@ -28,10 +28,7 @@ HasPlace c =
     (names : Names) → names_of (content_folder c.cache c.computed) ≡ Ok names → (name : List ℕ) × (names_of (content_path c.cache c.computed) ≡ Ok (names ++ name ∷ []))
 
 one_more : (home : Option Names) (front : Names) (name : List ℕ) (names : Names) → names_below home front ≡ Ok names → names_below home (front ++ name ∷ []) ≡ Ok (names ++ name ∷ [])
-one_more None front name names e = absurd cc
-one_more (Some home) front name names e =
-    let same : home ++ front ≡ names = cc in
-    ap Ok (sym (append_assoc home front (name ∷ [])) ∙ ap (λ (n : Names). n ++ name ∷ []) same)
+one_more home front name names e = grind (arith, common_steps)
 
 all_front : (ns ms : Names) → All IsProperName (ns ++ ms) → All IsProperName ns
 all_front [] ms all = All-nil IsProperName
@@ -65,33 +62,26 @@ Ready t (over r) = Unit {0}
 Ready t other = ⊥
 
 temp_is : (a : PlainAnswer) (file : PlainTemp) → temp_in a ≡ Ok file → a ≡ answers.Temp file
-temp_is (answers.Temp f) file e = let same : f ≡ file = cc in ap answers.Temp same
-temp_is other file e = absurd cc
+temp_is a file e = grind (arith, common_steps)
 
 written_is : (a : PlainAnswer) (w : PlainTemp × ℕ) → written_in a ≡ Ok w → a ≡ answers.Wrote w.0 w.1
-written_is (answers.Wrote f n) w e = let same : (f, n) ≡ w = cc in ap (λ (x : PlainTemp × ℕ). answers.Wrote x.0 x.1) same
-written_is other w e = absurd cc
+written_is a w e = grind (arith, common_steps)
 
 module _ (t : Tree) where
   by_cause : (i : Insertion) (cause : Option SerdeCause) → Ready t (unless_refused i cause)
-  by_cause i None = tt
-  by_cause i (Some cause) = tt
+  by_cause i cause = grind (arith, common_steps)
 
   by_key : (c : Commit) (key : Option (List ℕ)) → Ready t (indexed c key)
-  by_key c None = tt
-  by_key c (Some key) = by_cause (insertion_of c key) (refused_cause (insertion_of c key))
+  by_key c key = grind (arith, by_cause)
 
   by_size : (c : Commit) (size : Option ℕ) → Ready t (sized c size)
-  by_size c None = by_key c c.key
-  by_size c (Some wanted) = cond_leads (Ready t) (wanted == c.count) _ _ (λ _. by_key c c.key) (λ _. tt)
+  by_size c size = grind (arith, by_key, cond_leads)
 
   by_integrity : (c : Commit) (expected : Option (List Hash)) → Ready t (compared c expected)
-  by_integrity c None = by_size c c.options.size
-  by_integrity c (Some expected) = cond_leads (Ready t) (matches expected c.computed) _ _ (λ _. by_size c c.options.size) (λ _. tt)
+  by_integrity c expected = grind (arith, by_size, cond_leads)
 
   writes_rest : (c : Commit) (file : PlainTemp) (rest : List ℕ) → HasPlace c → Stands t file → Ready t (write_rest c file rest)
-  writes_rest c file [] place s = moves_on (λ next. Ready t (doing (make_folder (content_folder c.cache c.computed)) next)) c file (refl, place, s) (refl, place, s)
-  writes_rest c file (b ∷ bs) place s = (place, s)
+  writes_rest c file rest place s = grind (arith, moves_on)
 
   writes : (c : Commit) (rest : List ℕ) (w : PlainTemp × ℕ) → HasPlace c → Stands t w.0 → Ready t (after_write c rest w)
   writes c rest w place s = cond_leads (Ready t) (w.1 == 0) (fails faults.WriteZero) (write_rest c w.0 (drop w.1 rest)) (λ _. tt) (λ _. writes_rest c w.0 (drop w.1 rest) place s)
@@ -137,18 +127,14 @@ module _ (home : Option Names) (t : Tree) (rooted : Rooted t) (is_placed : Place
       (secures (Ready new) (λ p s h. (h, h)) c (by_integrity new c c.options.integrity))
 
   goes : (s : State) (step : PlainStep) → Ready t s → wants s ≡ Some step → Proper home step → Goes s step
-  goes (doing (make_folder p) (creating number c rest)) step ready want proper =
-      go_on_leads (Ready (apply t step Plain).1) (done_in (apply t step Plain).0) fails (λ _. creating number c rest) tt (λ fault. tt) (λ u e. ready)
-  goes (doing (make_folder p) (appending i)) step ready want proper =
-      go_on_leads (Ready (apply t step Plain).1) (done_in (apply t step Plain).0) fails (λ _. appending i) tt (λ fault. tt) (λ u e. tt)
+  goes (doing (make_folder p) (creating number c rest)) step ready want proper = search (rules, go_on_leads)
+  goes (doing (make_folder p) (appending i)) step ready want proper = search (rules, go_on_leads)
   goes (doing (make_folder p) (syncing c file)) step ready want proper =
       some_is (Goes (doing (make_folder p) (syncing c file))) _ step want (into_folder c file p (syncing c file) (λ new h. h) ready)
   goes (doing (make_folder p) (persisting c file)) step ready want proper =
       some_is (Goes (doing (make_folder p) (persisting c file))) _ step want (into_folder c file p (persisting c file) (λ new h. h) ready)
-  goes (doing (sync_file p) s) step ready want proper =
-      some_is (Goes (doing (sync_file p) s)) _ step want (syncs (sync_file p) s ready (λ most. unless_tree (λ new. Ready new s) (file_at t p faults.IsADirectory) t _ ready (λ _ _. ready)))
-  goes (doing (sync_dir p) s) step ready want proper =
-      some_is (Goes (doing (sync_dir p) s)) _ step want (syncs (sync_dir p) s ready (λ most. unless_tree (λ new. Ready new s) (folder t p) t _ ready (λ _ _. ready)))
+  goes (doing (sync_file p) s) step ready want proper = search (rules, some_is, syncs, unless_tree)
+  goes (doing (sync_dir p) s) step ready want proper = search (rules, some_is, syncs, unless_tree)
   goes (syncing c file) step ready want proper =
       some_is (Goes (syncing c file)) _ step want
       (go_on_leads (Ready (apply t (steps.SyncTemp file) Plain).1) (synced_in (apply t (steps.SyncTemp file) Plain).0) fails (persisting c) tt (λ fault. tt)
@@ -183,12 +169,7 @@ abbrev Quiet : Moves → Type 0
 Quiet = AllByRecursion (λ (m : PlainStep × PlainAnswer). IsNoQuestion m.0)
 
 no_question : (t : Tree) (s : State) (step : PlainStep) → Ready t s → wants s ≡ Some step → IsNoQuestion step
-no_question t (doing (make_folder p) next) step ready want = some_is IsNoQuestion _ step want tt
-no_question t (confirming c fault) step ready want = absurd ready
-no_question t (asking k) step ready want = absurd ready
-no_question t (walking w v todo) step ready want = absurd ready
-no_question t (over r) step ready want = absurd cc
-no_question t s step ready want = some_is IsNoQuestion _ step want tt
+no_question t s step ready want = grind (arith, some_is)
 
 quiet : (home : Option Names) (t : Tree) (s : State) (moves : Moves) (r : Reply) → Rooted t → Placed home t → Ready t s → IsTrace home t (plain_moves moves) → Runs s moves r → Quiet moves
 quiet home t s [] r rooted is_placed ready trace run = tt
@@ -200,8 +181,7 @@ quiet home t s (m ∷ moves) r rooted is_placed ready trace run =
     )
 
 finds_nothing : (step : PlainStep) (a : PlainAnswer) → IsNoQuestion step → finds_in step a ≡ []
-finds_nothing (steps.Exists path) a other = absurd other
-finds_nothing step a other = refl
+finds_nothing step a other = grind (arith, common_steps)
 
 module _ (home : Option Names) (path : List ℕ) (more : List Deed) where
   quiet_deeds : (t : Tree) (moves : Moves) → Quiet moves → deeds (turns_on t moves) ≡ finds path ∷ more → ⊥
@@ -214,5 +194,4 @@ module _ (home : Option Names) (path : List ℕ) (more : List Deed) where
 -- no put finds that its content is there: it puts it
 pub puts_find_nothing : (home : Option Names) (site : Site) (p : Put) (t : Tree) (moves : Moves) (r : Reply) (path : List ℕ) (more : List Deed) → Rooted t → Placed home t
     → IsTrace home t (plain_moves moves) → Runs (opening site (commands.Put p)) moves r → deeds (turns_on t moves) ≡ finds path ∷ more → ⊥
-puts_find_nothing home site p t moves r path more rooted is_placed trace run e =
-    quiet_deeds home path more t moves (quiet home t (opening site (commands.Put p)) moves r rooted is_placed (has_place site.cache p) trace run) e
+puts_find_nothing home site p t moves r path more rooted is_placed trace run e = search (rules, quiet_deeds, quiet, has_place)

@@ -1,7 +1,8 @@
 -- What a put leaves apart from its key and its bytes.
 -- What a put and a writer's commit leave, with any options.
 -- What an insertion leaves in a cache.
-use Rattle.std.{proofs.Common.{◌≡◌, ◌⊎◌, inl, inr, ℕ, List, [], ◌∷◌, Option, None, Some, length, refl, sym, subst, ◌∙◌, arith, ◌++◌, option_map, ap}, specs.Prelude.{IfSome}}
+use Rattle.std.proofs.{lemmas.Grind.{common_steps}, Common.{rules, ◌≡◌, ◌⊎◌, inl, inr, ℕ, List, [], ◌∷◌, Option, None, Some, length, refl, sym, subst, ◌∙◌, arith, ◌++◌, option_map, ap}}
+use Rattle.std.specs.Prelude.{IfSome}
 use Rattle.cacache_core.specs.{declared.{integrity.{digest.Hash.{Hash}, algorithm.Algorithm.{Algorithm}}, errors.{Error.{Error, TheVariants.{EntryNotFound, SizeMismatch, IoError, SerdeError, IntegrityError, OutOfMemory}}, SerdeCause.{SerdeCause}}}, Integrity.{Meets, integrity_under, IsIntegrity}, PathNames.{home_of}, Texts.{integrity_text}}
 use Rattle.cacache_core.proofs.{Meeting.{own_is_met}, Printed.{printed}}
 use Rattle.cacache_store.specs.declared.store.log.LogItem.{LogItem}
@@ -22,10 +23,7 @@ use Rattle.cacache_calls.specs.declared.reply.Reply.TheVariants as replies
 
 -- bytes meet each integrity that has their address
 met_there : (p : Put) (i : List Hash) → ShareAddress i (own_integrity p) → Meets i p.data
-met_there p [] same = absurd cc
-met_there p (a ∷ hs) same =
-    let is : a ≡ own_hash p = cc in
-    subst (λ x. Meets (x ∷ hs) p.data) (sym is) (0, omega arith, refl)
+met_there p i same = grind (arith, common_steps)
 
 module _ (cache : List ℕ) (p : Put) (old new : List LogItem) (ds : List Deed) (reply : Option Reply)
     (commits : CommitsAs (put_commit cache p) (λ names. PutBytes names p.data) ds reply)
@@ -57,15 +55,11 @@ module _ (cache : List ℕ) (p : Put) (old new : List LogItem) (ds : List Deed) 
 module _ (cache base : List ℕ) (command : Command) (r : Reply) (old new : List LogItem) (k : Known cache base command r old new) where
   -- what it did is one of the cases of its command
   pub case_of : IsCase (call_site (setup_at cache base) k.call.number) command (turns_on (tree_of old) k.call.moves) (Some r)
-  case_of =
-      subst (λ x. IsCase (call_site (setup_at cache base) k.call.number) command (turns_on (tree_of old) k.call.moves) (Some x)) k.reply_is
-      (subst (λ c. IsCase (call_site (setup_at cache base) k.call.number) c (turns_on (tree_of old) k.call.moves) (Some k.call.reply)) k.command_is k.answers.commits)
+  case_of = search rules
 
   -- the value that it left follows its deeds
   pub follows_of : Alike (value_of_tree (home_of cache) (tree_of new)) (after_deeds (home_of cache) (deeds (turns_on (tree_of old) k.call.moves)) (value_of_tree (home_of cache) (tree_of old)))
-  follows_of =
-      subst (λ t. Alike (value_of_tree (home_of cache) t) (after_deeds (home_of cache) (deeds (turns_on (tree_of old) k.call.moves)) (value_of_tree (home_of cache) (tree_of old)))) (sym k.leads)
-      k.answers.follows
+  follows_of = search rules
 
 pub writes_keep : WritesKeep
 writes_keep cache p r old new fits sound c =
@@ -126,8 +120,7 @@ puts_store s t call p key i command keyed reply answers =
 
 module _ (cache : List ℕ) (p : Put) (number : ℕ) (r : Reply) (old new : List LogItem) (e : Ended cache p number r old new) where
   ended_follows : Alike (value_of_tree (home_of cache) (tree_of new)) (after_deeds (home_of cache) (deeds (turns_on (tree_of old) e.moves)) (value_of_tree (home_of cache) (tree_of old)))
-  ended_follows =
-      subst (λ t. Alike (value_of_tree (home_of cache) t) (after_deeds (home_of cache) (deeds (turns_on (tree_of old) e.moves)) (value_of_tree (home_of cache) (tree_of old)))) (sym e.leads) e.follows
+  ended_follows = search rules
 
 pub commits_leave : CommitsLeave
 commits_leave cache p number i old new fits expects o sound c =
@@ -158,11 +151,7 @@ module _ (a : Algorithm) (cache key bytes : List ℕ) (moment number : ℕ) (old
   -- a content that the commit finds has the bytes, since nothing else lies there
   content_free : HasContent cache (integrity_under a bytes) bytes new
       ⊎ (IsThere (lies_under cache (integrity_under a bytes) old) × (lies_under cache (integrity_under a bytes) new ≡ lies_under cache (integrity_under a bytes) old)) → HasContent cache (integrity_under a bytes) bytes new
-  content_free (inl has) = has
-  content_free (inr found) = elim free [
-    | inl none ↦ absurd (subst IsThere none found.0)
-    | inr is ↦ record { content = found.1 ∙ is; formed = own_formed a bytes; meets = own_is_met a bytes }
-  ]
+  content_free h = grind (arith, own_formed, own_is_met)
 
   stores : (r : Reply) → CommitsBytes cache (plain_put a key bytes moment) number r old new → WritesKey cache key bytes r old new
   stores (replies.Stored i) c =
@@ -240,8 +229,7 @@ inserts_last cache i r old new formed written sound c =
 -- ---- plain insertions
 
 pub given_utf8 : (integrity : Option (List Hash)) → IsUtf8IfAny (given_text integrity)
-given_utf8 None = tt
-given_utf8 (Some i) = integrity_utf8 i
+given_utf8 integrity = grind (arith, integrity_utf8)
 
 pub plain_inserts_fit : PlainInsertsFit
 unfolding refused_cause
@@ -253,16 +241,13 @@ plain_inserts_fit a cache key integrity moment utf8 early =
 
 joined : (cache key bytes : List ℕ) (i : List Hash) (log : List LogItem) (o : Option Found) → found_under cache key log ≡ o → option_map (λ (found : Found). found.integrity) o ≡ Some i → HasContent cache i bytes log
     → HasKey cache key i bytes log
-joined cache key bytes i log None leads is h = absurd cc
-joined cache key bytes i log (Some found) leads is h = record { found = found; finds = leads; integrity = cc; content = h }
+joined cache key bytes i log o leads is h = grind (arith, leads)
 
 pub keys_join : KeysJoin
-keys_join cache key bytes i log leads h =
-    joined cache key bytes i log (found_under cache key log) refl leads h
+keys_join cache key bytes i log leads h = search (rules, joined, leads)
 
 lacks : (o : Option Found) → option_map (λ (found : Found). found.integrity) o ≡ None → o ≡ None
-lacks None e = refl
-lacks (Some found) e = absurd cc
+lacks o e = grind (arith, common_steps)
 
 pub none_lacks : NoneLacks
 none_lacks cache key log e = lacks (found_under cache key log) e

@@ -1,9 +1,9 @@
 -- What a put leaves if each thing is where it may be, even with ill-formed entries, which a loss may leave.
 -- What a write leaves in a cache.
+use Rattle.std.proofs.{Common.{arith, rules, ◌≡◌, ◌⊎◌, inl, inr, ℕ, List, [], ◌∷◌, ◌++◌, Option, None, Some, Result, Ok, Err, map, refl, sym, ap, subst, ◌∙◌, append-nil, length}, lemmas.{Grind.{common_steps}, List.Elements.{All-nil}}}
+use Rattle.std.specs.Prelude.{IfOk}
 use Rattle.cacache_laws.specs.{Puts.{PutsLeave, PutsMayLead, ExpectsIntegrity, HasPut}, Beside.{FitsEntry, own_integrity}, CallErrors.{IsPlainPut}, Caches.{Called, IsExcused, setup_at, plain_put, WritesKey, WritesLast}, Sequence.{Alike, AreAnswered, after_deeds, plain_moves, tree_on, turns_on}, Standing.{IsStanding, PutStands, StandingWrites}}
 use Rattle.cacache_laws.proofs.{Readings.{Standing.{caches_stand}, Known.{excused_by, known}}, Putting.{Puts.{put_keeps, has_or_found, plain_writes_fit}, Persisting.{puts_find_nothing}, Deeds.{commit_leads, may_lead}, Forms.{bare_written, has_key}}, Calls.{CallErrors.{calls_fail_only}, InParts.{logs_lead}, Logs.{some_same}, Sequence.{moves_after, moves_follow, turns_made}}}
-use Rattle.std.proofs.{Common.{◌≡◌, ◌⊎◌, inl, inr, ℕ, List, [], ◌∷◌, ◌++◌, Option, None, Some, Result, Ok, Err, map, refl, sym, ap, subst, ◌∙◌, append-nil, length}, lemmas.List.Elements.{All-nil}}
-use Rattle.std.specs.Prelude.{IfOk}
 use Rattle.cacache_core.specs.{declared.{errors.{Error.{Error}, Fault.{Fault}}, integrity.{digest.Hash.{Hash}, algorithm.Algorithm.{Algorithm}}}, PathNames.{Names, names_of, home_of}, Integrity.{integrity_under}, Texts.{integrity_text}}
 use Rattle.cacache_store.specs.{Fits.{Fits}, Plain.{PlainAnswer}, declared.store.log.LogItem.{LogItem, TheVariants.{Made}}}
 use Rattle.cacache_disk.specs.{declared.{luck.Luck.TheVariants.{Plain}, node.Node.{Node, TheVariants.{Link}}}, Apply.{apply}, Rooted.{Rooted}, Tree.{Tree, look}, memory.Replay.{tree_of}}
@@ -28,21 +28,13 @@ unfolding home_of
 no_home = refl
 
 any_target : (r : Result Names Fault) → IfOk r (λ names. path_kind None names ≡ Elsewhere)
-any_target (Ok names) = refl
-any_target (Err fault) = tt
+any_target r = grind (arith, common_steps)
 
 any_node : (o : Option Node) → MayStand None o Elsewhere
-any_node (Some (Link target)) = any_target (names_of target)
-any_node o = tt
+any_node o = grind (arith, any_target)
 
 held_there : (turn : Turn) → Rooted turn.place → turn.move.answer ≡ (apply turn.place turn.move.step turn.move.luck).0 → Fits turn.move.step turn.move.answer → TurnHolds nowhere turn
-held_there turn rooted answered fits = record {
-  placed = subst (λ (f : Option Names). Placed f turn.place) (sym no_home) (λ names. any_node (look turn.place names));
-  rooted = rooted;
-  formed = subst (λ (f : Option Names). TreeFormed f turn.place) (sym no_home) (λ digest. All-nil IsEntry);
-  answered = answered;
-  fits = fits;
-}
+held_there turn rooted answered fits = search (rules, no_home, any_node, answered)
 
 -- turns of any cache are such
 pub turns_there : (s : Setup) (turns : List Turn) → TurnsHold s turns → TurnsHold nowhere turns
@@ -82,14 +74,11 @@ module _ (s : Setup) (apart : LieApart (home s) s.outside) (n : ℕ) (command : 
 -- ---- what an insertion and a put did
 
 refused : (r : Reply) → IsRefused r → IsNotOk (Some r)
-refused (replies.Refused e) h = tt
-refused r h = absurd h
+refused r h = grind (arith, common_steps)
 
 sent_adds : (i : Insertion) (r : Reply) (a : PlainAnswer) (new : List Deed) → IsRefused r ⊎ TookAll (bucket_line i) a → SendsEntry (bucket_path i.cache i.entry.key) i.entry a new → InsertionAdds i new (Some r)
 unfolding bucket_line
-sent_adds i r a new (inl e) (inl h) = inl (h.0, refused r e)
-sent_adds i r a new (inr took) (inl h) = absurd (h.1 (took_entry i.durable i.entry a took))
-sent_adds i r a new end (inr h) = inr (does (AddEntries h.0 (i.entry ∷ [])), (h.0, h.1, refl), h.2)
+sent_adds i r a new h h2 = grind (arith, refused, took_entry)
 
 pub insertion_adds : (i : Insertion) (own : Own) (r : Reply) (es : List Effect) (ds : List Deed) → FormedIfWritten i → Realizes own es ds → Inserts i es r → InsertionAdds i ds (Some r)
 unfolding bucket_line refused_cause
@@ -105,22 +94,17 @@ module _ (cache : List ℕ) (p : Put) (r : Reply) (fits : FitsEntry cache p) whe
   put_own = own_bytes p.data (content_path cache (own_integrity p))
 
   put_deed : (d : Deed) → PutsAt put_own (content_path cache (own_integrity p)) d → PutsContent (put_commit cache p) (λ names. PutBytes names p.data) d
-  put_deed (does act) h = h
-  put_deed (finds path) h = h
+  put_deed d h = grind (arith, common_steps)
 
   put_adds : (key : List ℕ) (es : List Effect) (ds : List Deed) → p.key ≡ Some key → Realizes put_own es ds → Inserts (insertion_of (put_commit cache p) key) es r
       → InsertionAdds (insertion_of (put_commit cache p) key) ds (Some r)
   put_adds key es ds keyed real h = insertion_adds (insertion_of (put_commit cache p) key) put_own r es ds (fits key keyed) real h
 
   put_after : (key : Option (List ℕ)) (es : List Effect) (ds : List Deed) → p.key ≡ key → Realizes put_own es ds → Indexes (put_commit cache p) key es r → AddsAfter (put_commit cache p) key ds (Some r)
-  put_after None es ds keyed real h = subst (λ x. Realizes put_own x ds) h real
-  put_after (Some key) es ds keyed real h = put_adds key es ds keyed real h
+  put_after key es ds keyed real h = grind (arith, put_adds)
 
   pub put_commits : (es : List Effect) (ds : List Deed) → Realizes put_own es ds → Commits (put_commit cache p) es r → CommitsAs (put_commit cache p) (λ names. PutBytes names p.data) ds (Some r)
-  put_commits es ds real (inl h) = inl (subst (λ x. Realizes put_own x ds) h.0 real, refused r h.1)
-  put_commits es ds real (inr h) =
-      let k : Realizes put_own (stored (content_path cache (own_integrity p)) ∷ h.0) ds = subst (λ x. Realizes put_own x ds) h.1 real in
-      inr (k.0, k.1, put_deed k.0 k.3, k.2, put_after p.key h.0 k.1 refl k.4 h.2)
+  put_commits es ds real h = grind (arith, refused, put_deed, put_after)
 
 -- ---- a put that was made
 
@@ -147,9 +131,7 @@ module _ (cache : List ℕ) (p : Put) (r : Reply) (old new : List LogItem) (fits
   led = (logs_lead old new c.ran.0 c.ran.2 c.logged).1
 
   goes : Went s tt c.number (commands.Put p) t moves
-  goes =
-      went s tt c.number (commands.Put p) t (opening site (commands.Put p)) moves r standing.rooted (begins_sound site (may_export s) (is_outside s) (commands.Put p) fits)
-      (opening_carries site (commands.Put p)) c.ran.1 answered
+  goes = search (rules, went, begins_sound, opening_carries, answered)
 
   run : Runs (opening site (commands.Put p)) (made_in (turns_on t moves)) r
   run = subst (λ (ms : Moves). Runs (opening site (commands.Put p)) ms r) (sym (turns_made t moves)) c.ran.1

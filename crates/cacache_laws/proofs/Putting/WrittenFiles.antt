@@ -1,6 +1,6 @@
 -- A path shows the file that was written at its end.
 -- What steps that are done make: new folders keep what is there, and a file can be put into them.
-use Rattle.std.proofs.Common.{◌≡◌, ℕ, zero, suc, Bool, true, false, cond, List, [], ◌∷◌, ◌++◌, Option, None, Some, Result, Ok, Err, refl, sym, ap, subst, ◌∙◌, length, take, arith, append_assoc}
+use Rattle.std.proofs.{lemmas.Grind.{common_steps}, Common.{rules, ◌≡◌, ℕ, zero, suc, Bool, true, false, cond, List, [], ◌∷◌, ◌++◌, Option, None, Some, Result, Ok, Err, refl, sym, ap, subst, ◌∙◌, length, take, arith, append_assoc}}
 use Rattle.cacache_core.specs.{declared.errors.Fault.{Fault}, PathNames.{Names, names_of}}
 use Rattle.cacache_disk.specs.{declared.{node.Node.{Node, TheVariants.{Folder, File, Link}}, luck.Luck.TheVariants.{Plain}}, Apply.{apply, unless, make_some, grown, taken, made_temp}, LedTo.{and_then, or_fault, way_fault, through, bytes_there, on_link, place, standing, followed, leads, file_at, writable, where_there, where_no_folder, free, known, kept, replaceable, dirs, dirs_fault}, Tree.{Tree, look, put, same_path}, memory.Replay.{bytes_told, shown}, Rooted.{Rooted}}
 use Rattle.cacache_disk.proofs.{Maps.{same_path-true}, PutNodes.{look-put}, Roots.{same_self}, FoundNodes.{or_fault_none, and_then_ok, free_ok}, PlantedNodes.{full}, Standing.{upper_folder}}
@@ -24,8 +24,7 @@ module _ (t : Tree) (end : Names) (bytes : List ℕ) (takes : Takes (look t end)
   new = put t end (File bytes)
 
   by_place : (q : Names) (b : Bool) → (b ≡ true → q ≡ end) → (o : Option Node) → look t q ≡ o → (Takes o → ⊥) → cond b (Some (File bytes)) (look t q) ≡ o
-  by_place q true same o is never = absurd (never (subst Takes (ap (look t) (sym (same refl)) ∙ is) takes))
-  by_place q false same o is never = is
+  by_place q b same o is never = grind (arith, takes)
 
   -- a folder or a link is as it was
   other : (q : Names) (o : Option Node) → look t q ≡ o → (Takes o → ⊥) → look new q ≡ o
@@ -45,13 +44,7 @@ module _ (t : Tree) (end : Names) (bytes : List ℕ) (takes : Takes (look t end)
 
   place_so : (path : List ℕ) (found : Names) → place t path ≡ Ok found → place new path ≡ Ok found
   unfolding place
-  place_so path found = by (names_of path)
-    where
-      by : (r : Result Names Fault) → and_then r (λ names. or_fault (way_fault t [] names) names) ≡ Ok found → and_then r (λ names. or_fault (way_fault new [] names) names) ≡ Ok found
-      by (Err fault) e = absurd cc
-      by (Ok names) e =
-          let h = or_fault_none (way_fault t [] names) names found e in
-          ap (λ o. or_fault o names) (way_so [] names h.0) ∙ ap Ok h.1
+  place_so path found = search (rules, or_fault_none, way_so)
 
   -- ---- links
 
@@ -67,12 +60,7 @@ module _ (t : Tree) (end : Names) (bytes : List ℕ) (takes : Takes (look t end)
 
   standing_so : (path : List ℕ) (found : Names) → standing t path ≡ Ok found → standing new path ≡ Ok found
   unfolding standing
-  standing_so path found = by (place t path) refl
-    where
-      by : (r : Result Names Fault) → place t path ≡ r → and_then r (λ names. where_there (look t names) names) ≡ Ok found
-          → and_then (place new path) (λ names. where_there (look new names) names) ≡ Ok found
-      by (Err fault) is e = absurd cc
-      by (Ok names) is e = ap (λ r. and_then r (λ names. where_there (look new names) names)) (place_so path names is) ∙ stands_so names found e
+  standing_so path found = search (rules, place_so, stands_so)
 
   -- names that lead there do so still
   at_end : (names : Names) (go : List ℕ → Result Names Fault) → names ≡ end → on_link (look new names) names go ≡ Ok end
@@ -81,8 +69,7 @@ module _ (t : Tree) (end : Names) (bytes : List ℕ) (takes : Takes (look t end)
   -- where links lead on, by what was there
   link_so : (names : Names) (go next : List ℕ → Result Names Fault) → ((target : List ℕ) → go target ≡ Ok end → next target ≡ Ok end) → (o : Option Node) → look t names ≡ o → on_link o names go ≡ Ok end
       → on_link (look new names) names next ≡ Ok end
-  link_so names go next each (Some (Link target)) is e = ap (λ x. on_link x names next) (other names (Some (Link target)) is (λ no. no)) ∙ each target e
-  link_so names go next each other is e = at_end names next cc
+  link_so names go next each o is e = grind (arith, other, at_end)
 
   followed_so : (most : ℕ) (names : Names) → followed most t names ≡ Ok end → followed most new names ≡ Ok end
   unfolding followed
@@ -96,18 +83,12 @@ module _ (t : Tree) (end : Names) (bytes : List ℕ) (takes : Takes (look t end)
 
   leads_so : (path : List ℕ) → leads t path ≡ Ok end → leads new path ≡ Ok end
   unfolding leads
-  leads_so path = by (place t path) refl
-    where
-      by : (r : Result Names Fault) → place t path ≡ r → and_then r (followed 16 t) ≡ Ok end → and_then (place new path) (followed 16 new) ≡ Ok end
-      by (Err fault) is e = absurd cc
-      by (Ok names) is e = ap (λ r. and_then r (followed 16 new)) (place_so path names is) ∙ followed_so 16 names e
+  leads_so path = search (rules, place_so, followed_so)
 
   -- so the path shows the file
   shown_so : (path : List ℕ) → leads t path ≡ Ok end → shown new path ≡ Some bytes
   unfolding apply file_at
-  shown_so path e =
-      ap (λ r. bytes_told (unless (and_then r (λ names. bytes_there faults.IsADirectory (look new names))) new (λ b. (answers.Bytes b, new))).0) (leads_so path e)
-      ∙ ap (λ o. bytes_told (unless (bytes_there faults.IsADirectory o) new (λ b. (answers.Bytes b, new))).0) written
+  shown_so path e = search (rules, leads_so, written)
 
 -- ---- where a file can be written
 
@@ -129,27 +110,15 @@ no_link t (suc most) names end e = link_ends (look t names) names end (λ target
     go rec (Ok next) e path l = rec next e path l
 
 takes : (t : Tree) (end : Names) (o : Option Node) → look t end ≡ o → ((path : List ℕ) → look t end ≡ Some (Link path) → ⊥) → (found : Names) → where_no_folder o end ≡ Ok found → Takes o × (end ≡ found)
-takes t end (Some Folder) is never found e = absurd cc
-takes t end (Some (Link path)) is never found e = absurd (never path is)
-takes t end o is never found e = (tt, cc)
+takes t end o is never found e = grind (arith, common_steps)
 
 leads_plain : (t : Tree) (path : List ℕ) (end : Names) → leads t path ≡ Ok end → (to : List ℕ) → look t end ≡ Some (Link to) → ⊥
 unfolding leads
-leads_plain t path end e = by (place t path) e
-  where
-    by : (r : Result Names Fault) → and_then r (followed 16 t) ≡ Ok end → (to : List ℕ) → look t end ≡ Some (Link to) → ⊥
-    by (Err fault) e = absurd cc
-    by (Ok names) e = no_link t 16 names end e
+leads_plain t path end e = search (rules, no_link)
 
 pub written_shown : (t : Tree) (path bytes : List ℕ) (names : Names) → writable t path ≡ Ok names → shown (put t names (File bytes)) path ≡ Some bytes
 unfolding writable
-written_shown t path bytes names = by (leads t path) refl
-  where
-    by : (r : Result Names Fault) → leads t path ≡ r → and_then r (λ ns. where_no_folder (look t ns) ns) ≡ Ok names → shown (put t names (File bytes)) path ≡ Some bytes
-    by (Err fault) is e = absurd cc
-    by (Ok end) is e =
-        let h = takes t end (look t end) refl (leads_plain t path end is) names e in
-        subst (λ ns. shown (put t ns (File bytes)) path ≡ Some bytes) h.1 (shown_so t end bytes h.0 path is)
+written_shown t path bytes names = search (rules, takes, leads_plain, shown_so)
 
 -- ---- folders that are made
 
@@ -237,20 +206,12 @@ wrote_so t file next rest n s e =
 
 -- it is still there after folders are made
 pub still_stands : (t new : Tree) (p : List ℕ) (file : PlainTemp) → FoldersMade t new p → Stands t file → Stands new file
-still_stands t new p file made s = record {
-  names = s.names;
-  bytes = s.bytes;
-  was = s.was;
-  known_to_be = s.known_to_be;
-  named = s.named;
-  there = ap (λ x. look x s.names) made.is ∙ make_keeps t [] made.names s.names (File s.was) (length made.names) s.there;
-}
+still_stands t new p file made s = search (rules, make_keeps)
 
 -- ---- it becomes a content
 
 no_folder : (home : Option Names) (here : Option Node) (names : Names) → MayStand home here Content → where_no_folder here names ≡ Ok names
-no_folder home (Some Folder) names s = absurd s
-no_folder home here names s = refl
+no_folder home here names s = grind (arith, common_steps)
 
 pub kept_so : (t : Tree) (file : PlainTemp) (s : Stands t file) → kept t file.path ≡ Ok s.names
 unfolding kept

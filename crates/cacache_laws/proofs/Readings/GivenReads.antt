@@ -1,7 +1,7 @@
 -- What reads answer in any cache, whether the content is there or not, whole or damaged.
 -- What is known of a cache stays while it holds the same, and a lookup finds what its key leads to.
 -- A question whether a content is there is answered by what the cache has.
-use Rattle.std.proofs.Common.{◌≡◌, inl, inr, ℕ, Bool, true, false, cond, List, [], Option, None, Some, Result, Ok, Err, refl, sym, ap, subst, ◌∙◌, ◌⊎◌, ◌∷◌}
+use Rattle.std.proofs.{Common.{arith, rules, ◌≡◌, inl, inr, ℕ, Bool, true, false, cond, List, [], Option, None, Some, Result, Ok, Err, refl, sym, ap, subst, ◌∙◌, ◌⊎◌, ◌∷◌}, lemmas.Grind.{common_steps}}
 use Rattle.cacache_core.specs.{declared.{errors.{Error.{TheVariants.{EntryNotFound, IoError, IntegrityError, OutOfMemory}, Error}, Fault.{Fault}, IntegrityFault.TheVariants.{Check}}, integrity.digest.Hash.{Hash}}, Integrity.{Meets, actual}, Meeting.{meets}, PathNames.{home_of}}
 use Rattle.cacache_core.proofs.Meeting.{meets_finds}
 use Rattle.cacache_store.specs.{declared.store.log.LogItem.{LogItem}, Plain.{PlainStep, PlainAnswer}}
@@ -58,25 +58,16 @@ module _ (cache base key : List ℕ) (old new : List LogItem) where
   -- of a key that leads to nothing
   gives_none : found_under cache key old ≡ None → (r : Reply) → Known cache base (commands.Get key) r old new → UnlessFailed (replies.Refused (EntryNotFound cache key)) (plain_reply r)
       → GivesOfKey cache key r old new
-  gives_none lacks (replies.Refused OutOfMemory) k h = tt
-  gives_none lacks (replies.Refused (IoError fault message)) k h = excused cache base (commands.Get key) old new (λ f none. none) fault message k
-  gives_none lacks (replies.Refused (EntryNotFound c l)) k h = (cc, cc, lacks)
-  gives_none lacks other k h = absurd cc
+  gives_none lacks r k h = grind (arith, excused)
 
   -- of one that leads to an entry
   gives_led : (found : Found) → found_under cache key old ≡ Some found → (r : Reply) → Known cache base (commands.Get key) r old new → GivesHeld cache found.integrity r old new → GivesOfKey cache key r old new
-  gives_led found finds (replies.Refused OutOfMemory) k h = tt
-  gives_led found finds (replies.Refused (IoError fault message)) k h = h
-  gives_led found finds (replies.Refused (EntryNotFound c l)) k h = absurd h
-  gives_led found finds other k h = (found, finds, h)
+  gives_led found finds r k h = grind (arith, common_steps)
 
   gives_of_key : (o : Option Found) → found_under cache key old ≡ o → (r : Reply) → Known cache base (commands.Get key) r old new → UnlessFailed (get_on (setup_at cache base) (tree_of old) key o) (plain_reply r)
       → GivesOfKey cache key r old new
   gives_of_key None finds r k h = gives_none finds r k h
-  gives_of_key (Some found) finds r k h =
-      gives_led found finds r k
-      (gives_held cache base (commands.Get key) old new (λ fault none. none) found.integrity
-      (to_answer found.integrity (bytes_under cache found.integrity old)) r k h)
+  gives_of_key (Some found) finds r k h = search (rules, gives_led, gives_held, to_answer)
 
 pub key_reads_give : KeyReadsGive
 key_reads_give cache key r old new sound c =
@@ -129,15 +120,11 @@ pub same_stays_known : SameStaysKnown
 same_stays_known cache old new same = stays_known cache old new (record { contents = λ a. ap (λ v. v.contents a) same; lists = λ d. ap (λ v. list_of (v.buckets d)) same })
 
 fails_for : (there : Option Found) (e : Error) → UnlessFailed (replies.LookedUp there) (plain_reply (replies.Refused e)) → FailsOnly (replies.Refused e)
-fails_for there OutOfMemory h = tt
-fails_for there (IoError fault message) h = tt
-fails_for there e h = absurd cc
+fails_for there e h = grind (arith, common_steps)
 
 gives_found : (cache base key : List ℕ) (there : Option Found) (old new : List LogItem) (r : Reply) → Known cache base (commands.Find key) r old new
     → UnlessFailed (replies.LookedUp there) (plain_reply r) → GivesFound there r old new
-gives_found cache base key there old new (replies.LookedUp found) k h = cc
-gives_found cache base key there old new (replies.Refused e) k h = excuse cache base (commands.Find key) old new (λ fault none. none) e k (fails_for there e h)
-gives_found cache base key there old new r k h = absurd cc
+gives_found cache base key there old new r k h = grind (arith, excuse, fails_for)
 
 pub finds_found : FindsFound
 finds_found cache key r old new sound c =
@@ -210,17 +197,14 @@ module _ (cache base bytes : List ℕ) (i : List Hash) (old new : List LogItem) 
   failed_so step a e = absurd cc
 
   lost_so : (e : Error) (a : PlainAnswer) → plain_reply (replies.Refused e) ≡ there_reply (unless_failed a (Ok true)) → plain_reply (replies.Refused e) ≡ replies.Refused OutOfMemory
-  lost_so e (answers.NoMemory back) is = is
-  lost_so e a is = absurd cc
+  lost_so e a is = grind (arith, common_steps)
 
   memory_so : (e : Error) → plain_reply (replies.Refused e) ≡ replies.Refused OutOfMemory → e ≡ OutOfMemory
-  memory_so OutOfMemory is = refl
-  memory_so e is = absurd cc
+  memory_so e is = grind (arith, common_steps)
 
   -- no reply of another kind comes of it
   kind_so : (a : PlainAnswer) → IsSaid (there_reply (unless_failed a (Ok true)))
-  kind_so (answers.Failed fault) = tt
-  kind_so a = tt
+  kind_so a = grind (arith, common_steps)
 
   no_other : (r : Reply) (a : PlainAnswer) → r ≡ there_reply (unless_failed a (Ok true)) → IsSaid r
   no_other r a e = subst IsSaid (sym e) (kind_so a)
@@ -255,14 +239,10 @@ abbrev SaysNo : PlainAnswer → Type 0
 SaysNo a = SaysAbsent (there_reply (unless_failed a (Ok false)))
 
 never_yes : (a : PlainAnswer) → SaysNo a
-never_yes (answers.NoMemory back) = refl
-never_yes a = tt
+never_yes a = grind (arith, common_steps)
 
 plainly_absent : (r : Reply) → SaysAbsent (plain_reply r) → SaysAbsent r
-plainly_absent (replies.Exists false) h = tt
-plainly_absent (replies.Refused OutOfMemory) h = refl
-plainly_absent (replies.Refused e) h = absurd cc
-plainly_absent r h = absurd h
+plainly_absent r h = grind (arith, common_steps)
 
 pub asks_absent : AsksAbsent
 asks_absent cache i r old new sound formed none c =

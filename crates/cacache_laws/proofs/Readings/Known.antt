@@ -1,6 +1,6 @@
 -- What is known of a call that was made on a cache in a store in memory.
 -- What reads answer by what a cache has, and that it stays.
-use Rattle.std.proofs.Common.{◌≡◌, inl, inr, ℕ, List, [], ◌++◌, map, refl, sym, subst, Some, ap, ◌∙◌}
+use Rattle.std.proofs.{Common.{arith, rules, ◌≡◌, inl, inr, ℕ, List, [], ◌++◌, map, refl, sym, subst, Some, ap, ◌∙◌}, lemmas.Grind.{common_steps}}
 use Rattle.cacache_core.specs.{declared.{errors.{Error.{Error, TheVariants.{IoError, OutOfMemory}}, Fault.{Fault}}, integrity.digest.Hash.{Hash}}, PathNames.{home_of}, Integrity.{address}}
 use Rattle.cacache_store.specs.declared.store.log.LogItem.{LogItem, TheVariants.{Made}}
 use Rattle.cacache_disk.specs.{Tree.{bare}, memory.Replay.{tree_of}}
@@ -61,24 +61,14 @@ caches_last cache command r old new c may named sound = (known cache command r o
 -- a failure has its cause among these steps, if the call has no fault of its own
 pub excused_by : (own : Fault → Type 0) (old new : List LogItem) (moves : Moves) → ((fault : Fault) → own fault → ⊥) → new ≡ old ++ map (λ m. Made m.0 m.1) moves → (e : Error)
     → HasCause own moves (plain_reply (replies.Refused e)) → FailsOnly (replies.Refused e) → IsExcused e old new
-excused_by own old new moves none gained OutOfMemory cause h = inl refl
-excused_by own old new moves none gained (IoError fault message) cause h = inr (moves, gained, fault, elim cause [ inl mine ↦ absurd (none fault mine) | inr f ↦ f ])
-excused_by own old new moves none gained other cause h = absurd h
+excused_by own old new moves none gained e cause h = grind (arith, common_steps)
 
 pub excuse : (cache base : List ℕ) (command : Command) (old new : List LogItem) → ((fault : Fault) → own_of command fault → ⊥) → (e : Error)
     → Known cache base command (replies.Refused e) old new → FailsOnly (replies.Refused e) → IsExcused e old new
-excuse cache base command old new none e k h =
-    excused_by (own_of command) old new k.call.moves none k.gained e
-    (subst (λ c. HasCause (own_of c) k.call.moves (plain_reply (replies.Refused e))) k.command_is
-    (subst (λ r. HasCause (own_of k.call.command) k.call.moves (plain_reply r)) k.reply_is k.answers.causes))
-    h
+excuse cache base command old new none e k h = search (rules, excused_by)
 
 pub content_stays : (cache bytes : List ℕ) (i : List Hash) (old new : List LogItem) → HoldsSame cache old new → HasContent cache i bytes old → HasContent cache i bytes new
-content_stays cache bytes i old new same h = record {
-  content = ap (λ v. blob_at v (address i)) same ∙ h.content;
-  formed = h.formed;
-  meets = h.meets;
-}
+content_stays cache bytes i old new same h = search rules
 
 pub key_stays : (cache key bytes : List ℕ) (i : List Hash) (old new : List LogItem) → HoldsSame cache old new → HasKey cache key i bytes old → HasKey cache key i bytes new
 key_stays cache key bytes i old new same h = record {

@@ -1,6 +1,6 @@
 -- Calls that only look leave the tree.
 -- What the first deed of a call finds was there before the call.
-use Rattle.std.{proofs.Common.{◌≡◌, ℕ, [], ◌∷◌, ◌++◌, Option, refl, sym, ap, subst, ◌∙◌, true, List, append_assoc}, specs.Prelude.{map}}
+use Rattle.std.{proofs.{Common.{arith, ◌≡◌, ℕ, [], ◌∷◌, ◌++◌, Option, refl, sym, ap, subst, ◌∙◌, true, List, append_assoc}, lemmas.Grind.{common_steps}}, specs.Prelude.{map}}
 use Rattle.cacache_core.specs.{PathNames.{Names, home_of}, declared.integrity.digest.Hash.{Hash}, Integrity.{IsHash}}
 use Rattle.cacache_store.specs.{declared.store.log.LogItem.TheVariants.{Made}, Plain.{PlainStep, PlainAnswer}}
 use Rattle.cacache_disk.specs.{declared.luck.Luck.TheVariants.{Plain}, Tree.{Tree, bare}, Apply.{apply}, memory.Replay.{replay, tree_of}}
@@ -18,13 +18,7 @@ use Rattle.cacache_store.specs.declared.store.answer.Answer.TheVariants as answe
 -- ---- steps that leave the tree
 
 step_leaves : (t : Tree) (step : PlainStep) → May (allows looking_on step) → (apply t step Plain).1 ≡ t
-step_leaves t (steps.ReadAll p) may = reading_keeps t p
-step_leaves t (steps.Open p) may = opening_keeps t p
-step_leaves t (steps.Read f max) may = piece_keeps t f max
-step_leaves t (steps.Exists p) may = asking_keeps t p
-step_leaves t (steps.Size p) may = sizing_keeps t p
-step_leaves t (steps.ReadDir p) may = listing_keeps t p
-step_leaves t step may = absurd may
+step_leaves t step may = grind (arith, reading_keeps, opening_keeps, piece_keeps, asking_keeps, sizing_keeps, listing_keeps)
 
 -- ---- moves
 
@@ -59,11 +53,7 @@ looks_keep cache command r old new looks c = ap (value_of_tree (home_of cache)) 
 -- an act whose deeds aren't first leaves contents
 pub no_deeds : (home : Option Names) (path : List ℕ) (more : List Deed) (act : Act) (rest : List Deed) → deeds_of_act act ++ rest ≡ finds path ∷ more
     → (rest ≡ finds path ∷ more) × ((v : Value) (a : Hash) → (change home act v).contents a ≡ v.contents a)
-no_deeds home path more (PutBytes names bytes) rest e = absurd cc
-no_deeds home path more (PutLink names target) rest e = absurd cc
-no_deeds home path more (AddEntries names (x ∷ xs)) rest e = absurd cc
-no_deeds home path more (Drop names) rest e = absurd cc
-no_deeds home path more act rest e = (e, λ v a. refl)
+no_deeds home path more act rest e = grind (arith, common_steps)
 
 module _ (s : Setup) (a : Hash) (is : IsHash a) (more : List Deed) where
   -- a question that is answered yes, or otherwise what comes later

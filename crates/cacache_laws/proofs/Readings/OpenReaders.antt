@@ -1,5 +1,5 @@
 -- What the opening of a reader finds in a cache, and that it leaves the tree.
-use Rattle.std.proofs.{Common.{◌≡◌, ◌⊎◌, inl, inr, ℕ, List, [], ◌∷◌, ◌++◌, Option, None, Some, Result, Ok, Err, map, refl, sym, ap, subst, ◌∙◌, arith}, lemmas.List.Elements.{All-head}}
+use Rattle.std.proofs.{lemmas.{Grind.{common_steps}, List.Elements.{All-head}}, Common.{rules, ◌≡◌, ◌⊎◌, inl, inr, ℕ, List, [], ◌∷◌, ◌++◌, Option, None, Some, Result, Ok, Err, map, refl, sym, ap, subst, ◌∙◌, arith}}
 use Rattle.cacache_core.specs.{declared.{errors.{Error.{Error, TheVariants.{EntryNotFound, IoError, OutOfMemory}}, Fault.{Fault}}, integrity.digest.Hash.{Hash}}, Integrity.{IsHash}, PathNames.{home_of}}
 use Rattle.cacache_core.specs.declared.errors.Fault.TheVariants as faults
 use Rattle.cacache_store.specs.declared.store.answer.Answer.TheVariants as answers
@@ -55,13 +55,7 @@ module _ (path : List ℕ) (old new : List LogItem) where
 
   pub errs : (e : Error) → FailsAt (steps.Open path) e (Some old) (Some new) → Opened path (Err e) old new
   errs (IoError fault message) h = failed_at (IoError fault message) fault (inr (message, refl)) h
-  errs OutOfMemory (inl same) = record {
-    moves = [];
-    gains = gains_none (Some old) new same;
-    only = inl refl;
-    file = λ f no_file. absurd cc;
-    excused = λ x is. (let one : OutOfMemory ≡ x = cc in inl (sym one));
-  }
+  errs OutOfMemory (inl same) = search (rules, gains_none)
   errs OutOfMemory (inr h) = failed_at OutOfMemory h.0 (inl refl) h.1
   errs e h = absurd h
 
@@ -75,12 +69,10 @@ module _ (path : List ℕ) (old new : List LogItem) where
   }
 
 pub opened_by : (cache : List ℕ) (i : List Hash) (r : Result PlainFile Error) (old new : List LogItem) → OpensContent cache i r (Some old) (Some new) → Opened (content_path cache i) r old new
-opened_by cache i (Err e) old new h = errs (content_path cache i) old new e h
-opened_by cache i (Ok file) old new h = opens_file (content_path cache i) old new file h
+opened_by cache i r old new h = grind (arith, errs, opens_file)
 
 only_keeps : (t : Tree) (path : List ℕ) (moves : Moves) → (moves ≡ []) ⊎ ((a : PlainAnswer) × (moves ≡ (steps.Open path, a) ∷ [])) → tree_on t moves ≡ t
-only_keeps t path moves (inl none) = ap (tree_on t) none
-only_keeps t path moves (inr one) = ap (tree_on t) one.1 ∙ opening_keeps t path
+only_keeps t path moves h = grind (arith, opening_keeps)
 
 pub opened_keeps : (path : List ℕ) (r : Result PlainFile Error) (old new : List LogItem) → Opened path r old new → IsLog new → tree_of new ≡ tree_of old
 opened_keeps path r old new o logged = (logs_lead old new o.moves o.gains logged).1 ∙ only_keeps (tree_of old) path o.moves o.only
@@ -125,12 +117,10 @@ IsOver (over r) = Unit {0}
 IsOver s = ⊥
 
 missing_over : (l : Lookup) → l.aim ≡ aims.Report → (fault : Fault) → IsOver (no_bucket l fault)
-missing_over l is faults.NotFound = subst (λ aim. IsOver (found_for l aim None)) (sym is) tt
-missing_over l is fault = tt
+missing_over l is fault = grind (arith, common_steps)
 
 looked_over : (l : Lookup) → l.aim ≡ aims.Report → (a : PlainAnswer) → IsOver (table.after (looking l) a)
-looked_over l is a =
-    go_on_leads IsOver (bytes_in a) (no_bucket l) (after_bucket l) tt (missing_over l is) (λ bytes e. subst (λ aim. IsOver (found_for l aim (found_in l.key bytes))) (sym is) tt)
+looked_over l is a = search (rules, go_on_leads, missing_over)
 
 over_moves : (s : State) (moves : Moves) (r : Reply) → IsOver s → Runs s moves r → moves ≡ []
 over_moves s [] r h run = refl
@@ -148,9 +138,7 @@ lookup_keeps t cache key (m ∷ moves) r run =
 -- ---- errors without their messages
 
 lookup_fails : (o : Option Found) (e : Error) → UnlessFailed (replies.LookedUp o) (plain_reply (replies.Refused (without_message e))) → FailsOnly (replies.Refused (without_message e))
-lookup_fails o OutOfMemory h = tt
-lookup_fails o (IoError fault message) h = tt
-lookup_fails o e h = absurd cc
+lookup_fails o e h = grind (arith, common_steps)
 
 -- how an opening by key ends: what was found is opened, the lookup was refused, or it found nothing
 pub by_key : (cache base key : List ℕ) (old new : List LogItem) (P : Result PlainFile Error → Type 0) → ((r : Result PlainFile Error) → OpensWhatWasFound cache base key r (Some old) (Some new) → P r)

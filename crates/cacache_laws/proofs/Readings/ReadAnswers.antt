@@ -1,6 +1,6 @@
 -- Steps that read leave the tree.
 -- A lookup and a read answer by what the cache held, and leave the tree.
-use Rattle.std.proofs.Common.{◌≡◌, ℕ, List, Result, Ok, Err, length, refl, ◌⊎◌, inl, inr, [], ◌∷◌, Option, None, Some, sym, ap, subst, ◌∙◌}
+use Rattle.std.proofs.{Common.{arith, rules, ◌≡◌, ℕ, List, Result, Ok, Err, length, refl, ◌⊎◌, inl, inr, [], ◌∷◌, Option, None, Some, sym, ap, subst, ◌∙◌}, lemmas.Grind.{common_steps}}
 use Rattle.cacache_core.specs.declared.{errors.{Fault.{Fault}, Error.TheVariants.{IoError, OutOfMemory}}, integrity.digest.Hash.{Hash}}
 use Rattle.cacache_store.specs.{declared.store.plain.PlainFile.{PlainFile}, Plain.{PlainAnswer, PlainStep}}
 use Rattle.cacache_disk.specs.{declared.luck.Luck.TheVariants.{Plain}, Tree.{Tree, listing}, LedTo.{file_at, folder}, Apply.{apply, unless, opened}}
@@ -19,8 +19,7 @@ use Rattle.cacache_calls.specs.declared.reply.Reply.TheVariants as replies
 
 -- a step that answers a value or a fault, and leaves the tree
 unless_keeps : {A : Type 0} (r : Result A Fault) (t : Tree) (answer : A → PlainAnswer) → (unless r t (λ x. (answer x, t))).1 ≡ t
-unless_keeps (Ok x) t answer = refl
-unless_keeps (Err fault) t answer = refl
+unless_keeps r t answer = grind (arith, common_steps)
 
 pub reading_keeps : (t : Tree) (path : List ℕ) → (apply t (steps.ReadAll path) Plain).1 ≡ t
 unfolding apply
@@ -49,11 +48,7 @@ sizing_keeps t path = unless_keeps (file_at t path faults.IsADirectory) t (λ by
 -- a file that was opened is one of some bytes
 pub opened_so : (t : Tree) (path : List ℕ) (file : PlainFile) → answers.File file ≡ (apply t (steps.Open path) Plain).0 → (bytes : List ℕ) × (file ≡ opened bytes)
 unfolding apply
-opened_so t path file e = by (file_at t path faults.IsADirectory) e
-  where
-    by : (r : Result (List ℕ) Fault) → answers.File file ≡ (unless r t (λ bytes. (answers.File (opened bytes), t))).0 → (bytes : List ℕ) × (file ≡ opened bytes)
-    by (Ok bytes) is = (bytes, cc)
-    by (Err fault) is = absurd cc
+opened_so t path file e = search rules
 
 -- ---- what is shown, unless a step failed
 
@@ -62,23 +57,17 @@ abbrev Shown : {X : Type 0} → Result X Refusal → Result X Refusal → Type 0
 Shown r b = (b ≡ r) ⊎ ((refusal : Refusal) × (b ≡ Err refusal))
 
 pub is_shown : {X : Type 0} (a : PlainAnswer) (r : Result X Refusal) → Shown r (shown_result a r)
-is_shown (answers.Failed faults.NotFound) r = inl refl
-is_shown (answers.Failed fault) r = inr (refusals.Fault fault, refl)
-is_shown (answers.NoMemory step) r = inr (refusals.Memory, refl)
-is_shown other r = inl refl
+is_shown a r = grind (arith, common_steps)
 
 module _ (expected r : Reply) where
   refused_so : (refusal : Refusal) → r ≡ refusal_reply refusal → UnlessFailed expected r
-  refused_so (refusals.Fault fault) e = subst (UnlessFailed expected) (sym e) tt
-  refused_so refusals.Memory e = subst (UnlessFailed expected) (sym e) tt
+  refused_so refusal e = grind (arith, common_steps)
 
   memory_so : r ≡ replies.Refused OutOfMemory → UnlessFailed expected r
   memory_so e = subst (UnlessFailed expected) (sym e) tt
 
 pub same_so : (expected r : Reply) → r ≡ expected → UnlessFailed expected r
-same_so expected (replies.Refused OutOfMemory) e = tt
-same_so expected (replies.Refused (IoError fault message)) e = tt
-same_so expected r e = e
+same_so expected r e = grind (arith, common_steps)
 
 -- ---- what is answered
 
@@ -188,11 +177,7 @@ module _ (s : Setup) (r : Reply) where
   follows t moves other expected is h = absurd cc
 
 pub replies_follow : RepliesFollow
-replies_follow s t call expected is answers =
-    elim answers.reads [
-      | inl e ↦ memory_so expected (plain_reply call.reply) (ap plain_reply e)
-      | inr h ↦ follows s (plain_reply call.reply) t call.moves call.command expected is h
-    ]
+replies_follow s t call expected is answers = search (rules, memory_so, follows)
 
 pub reads_keep : ReadsKeep
 reads_keep s t call expected is answers =

@@ -1,5 +1,5 @@
 -- Reads and lookups if each thing is where it may be, whatever the bytes of contents and buckets.
-use Rattle.std.proofs.{Common.{◌≡◌, ◌⊎◌, inl, inr, ℕ, Bool, true, false, cond, List, [], ◌∷◌, ◌++◌, Option, None, Some, Result, Ok, Err, map, option_map, refl, sym, ap, subst, ◌∙◌, arith}, lemmas.List.Elements.{All-head}}
+use Rattle.std.proofs.{lemmas.{Grind.{common_steps}, List.Elements.{All-head}}, Common.{rules, ◌≡◌, ◌⊎◌, inl, inr, ℕ, Bool, true, false, cond, List, [], ◌∷◌, ◌++◌, Option, None, Some, Result, Ok, Err, map, option_map, refl, sym, ap, subst, ◌∙◌, arith}}
 use Rattle.sha1.specs.Sha1.{sha1}
 use Rattle.cacache_core.specs.{declared.{errors.{Error.TheVariants.{IntegrityError, IoError, OutOfMemory}, IntegrityFault.TheVariants.{Check}, Fault.{Fault}}, integrity.digest.Hash.{Hash}}, Integrity.{IsHash, IsIntegrity, Meets, actual, address}, Meeting.{meets}, PathNames.{home_of}}
 use Rattle.cacache_core.proofs.Meeting.{meets_finds}
@@ -33,11 +33,7 @@ looks_leave_standing cache command r old new looks c standing =
 -- a lookup in what the answer shows finds what one in the bucket does, or the step was refused
 pub found_shown : (key : List ℕ) (bucket : Option (List Entry)) (a : PlainAnswer) → ShowsBucket bucket a
     → (lookup key (bucket_shown a) ≡ Ok (latest key (list_of bucket))) ⊎ ((refusal : Refusal) × (lookup key (bucket_shown a) ≡ Err refusal))
-found_shown key bucket (answers.Bytes bytes) is = inl (ap (λ b. Ok (latest key (list_of b))) (sym is))
-found_shown key bucket (answers.Failed faults.NotFound) is = inl (ap (λ b. Ok (latest key (list_of b))) (sym is))
-found_shown key bucket (answers.Failed fault) is = inr (refusals.Fault fault, refl)
-found_shown key bucket (answers.NoMemory step) is = inr (refusals.Memory, refl)
-found_shown key bucket a is = inr (refusals.Fault faults.Device, refl)
+found_shown key bucket a is = grind (arith, common_steps)
 
 -- the same holds of a content's bytes
 bytes_shown : (bytes : List ℕ) (content : Result (List ℕ) Fault) (a : PlainAnswer) → content ≡ Ok bytes → ShowsContent content a
@@ -49,19 +45,13 @@ bytes_shown bytes content (answers.Bytes b) held is =
 bytes_shown bytes content a held is = inr (refusal_in a, refl)
 
 pub met_reply : (i : List Hash) (bytes : List ℕ) → Meets i bytes → content_reply i (Ok bytes) ≡ replies.Read bytes
-met_reply i bytes met = by (meets i bytes) ((meets_finds i bytes).1 met)
-  where
-    by : (b : Bool) → b ≡ true → cond b (replies.Read bytes) (replies.Refused (IntegrityError (Check i (actual i bytes)))) ≡ replies.Read bytes
-    by true e = refl
-    by false e = absurd cc
+met_reply i bytes met = search (rules, meets_finds)
 
 found_reply : (key : List ℕ) (b : Result (List Entry) Refusal) (found : Option Found) → lookup key b ≡ Ok found → find_reply key b ≡ replies.LookedUp found
-found_reply key (Ok entries) found e = let same : latest key entries ≡ found = cc in ap replies.LookedUp same
-found_reply key (Err refusal) found e = absurd cc
+found_reply key b found e = grind (arith, common_steps)
 
 refused_reply : (key : List ℕ) (b : Result (List Entry) Refusal) (refusal : Refusal) → lookup key b ≡ Err refusal → find_reply key b ≡ refusal_reply refusal
-refused_reply key (Ok entries) refusal e = absurd cc
-refused_reply key (Err other) refusal e = let same : other ≡ refusal = cc in ap refusal_reply same
+refused_reply key b refusal e = grind (arith, common_steps)
 
 -- ---- a call if each thing is where it may be
 

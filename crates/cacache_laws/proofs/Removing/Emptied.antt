@@ -1,5 +1,5 @@
 -- A clearing that ends as done leaves an empty cache.
-use Rattle.std.proofs.Common.{◌≡◌, inl, inr, ℕ, true, false, List, [], ◌∷◌, ◌++◌, None, Some, refl, sym, ap, subst, ◌∙◌, append_assoc}
+use Rattle.std.proofs.{Common.{arith, ◌≡◌, inl, inr, ℕ, true, false, List, [], ◌∷◌, ◌++◌, None, Some, refl, sym, ap, subst, ◌∙◌, append_assoc}, lemmas.Grind.{common_steps}}
 use Rattle.cacache_core.specs.PathNames.{Names, home_of}
 use Rattle.cacache_disk.{specs.{Rooted.{is_folder, Rooted}, Tree.{Tree, look}}, proofs.Standing.{above_missing}}
 use Rattle.cacache_calls.specs.declared.command.Command.TheVariants as commands
@@ -15,8 +15,7 @@ module _ (t : Tree) (home : Names) (rooted : Rooted t) (none : (name : List ℕ)
   inner_none name rest = ap (look t) (sym (append_assoc home (name ∷ []) rest)) ∙ above_missing t (home ++ name ∷ []) rest rooted (none name)
 
   inner_folders : (q : Names) → folders_below (Some home) (λ n. is_folder (look t n)) q ≡ false
-  inner_folders [] = refl
-  inner_folders (name ∷ rest) = ap is_folder (inner_none name rest)
+  inner_folders q = grind (arith, inner_none)
 
   holds_nothing : value_of_tree (Some home) t ≡ empty_value
   holds_nothing = same_value _ _ (λ a. ap blob_in (inner_none _ _)) (λ d. ap bucket_in (inner_none _ _)) (λ q. inner_folders q)
@@ -32,8 +31,7 @@ emptied cache t new still (swept p named there sheds (inr unfinished)) = absurd 
 emptied cache t new still (kept never same unfinished) = absurd (unfinished refl)
 
 never_broken : BreaksOff commands.Clear Done → ⊥
-never_broken (inl e) = absurd cc
-never_broken (inr e) = absurd cc
+never_broken h = grind (arith, common_steps)
 
 pub clears_all : (cache : List ℕ) (t : Tree) (moves : Moves) → Rooted t → Runs (walk true cache) moves Done → AreAnswered t moves → Rooted (tree_on t moves) → value_of_tree (home_of cache) (tree_on t moves) ≡ empty_value
 clears_all cache t moves rooted run answered still =

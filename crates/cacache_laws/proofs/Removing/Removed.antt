@@ -1,5 +1,5 @@
 -- What the removal of a content, and of a key with its content, leaves in a cache.
-use Rattle.std.proofs.{Common.{◌≡◌, ◌⊎◌, inl, inr, ℕ, Bool, true, false, cond, List, [], ◌∷◌, ◌++◌, Option, None, Some, Result, Ok, Err, refl, sym, ap, subst, ◌∙◌, arith}, lemmas.List.Elements.{All-head}}
+use Rattle.std.proofs.{lemmas.{Grind.{common_steps}, List.Elements.{All-head}}, Common.{rules, ◌≡◌, ◌⊎◌, inl, inr, ℕ, Bool, true, false, cond, List, [], ◌∷◌, ◌++◌, Option, None, Some, Result, Ok, Err, refl, sym, ap, subst, ◌∙◌, arith}}
 use Rattle.sha1.specs.Sha1.{sha1}
 use Rattle.cacache_core.specs.{declared.{errors.{Error.{Error, TheVariants.{IoError, OutOfMemory}}, Fault.{Fault}}, integrity.digest.Hash.{Hash}}, Integrity.{IsHash, IsIntegrity}, PathNames.{Names, names_of, names_below, home_of}, Paths.{joined, content_names, bucket_names_of}}
 use Rattle.cacache_core.proofs.{PathLemmas.{keys_have_digests}, PathTexts.{paths_differ}}
@@ -82,16 +82,13 @@ module _ (path : List ℕ) (next : State) (t : Tree) (r : Reply) where
 -- deeds after those of a removal
 pub then_deeds : (folder : Option Names) (r : Result Names Fault) (more : List Deed) (v : Value)
     → after_deeds folder ((deeds_of_act (act_at r Drop) ++ []) ++ more) v ≡ after_deeds folder more (after_deeds folder (deeds_of_act (act_at r Drop)) v)
-then_deeds folder (Ok names) more v = refl
-then_deeds folder (Err fault) more v = refl
+then_deeds folder r more v = grind (arith, common_steps)
 
 cut_once : {A B : Type 0} (a b : A) (old : Option B) (here : Bool) → (here ≡ true → a ≡ b) → (cond here None old ≡ old) ⊎ ((a ≡ b) × (cond here None old ≡ None))
-cut_once a b old true is = inr (is refl, refl)
-cut_once a b old false is = inl refl
+cut_once a b old here is = grind (arith, common_steps)
 
 uncut : {A : Type 0} (old : Option A) (here : Bool) → (here ≡ true → ⊥) → cond here None old ≡ old
-uncut old true never = absurd (never refl)
-uncut old false never = refl
+uncut old here never = grind (arith, common_steps)
 
 pub not_content : (a : Hash) (d : List ℕ) → content_names a ≡ bucket_names_of d → ⊥
 not_content a d e = absurd cc
@@ -111,13 +108,7 @@ module _ (cache path : List ℕ) (v : Value) where
         by (Ok names) e = cut_once a b (v.contents a) (is_path_of (home_of cache) (content_names a) names) (λ here. one_address cache (home_of cache) b a names hash is (sym below ∙ e) here)
 
     pub uncut_buckets : (d : List ℕ) → cut_value.buckets d ≡ v.buckets d
-    uncut_buckets d = by (names_of path) refl
-      where
-        by : (r : Result Names Fault) → names_of path ≡ r → (after_deeds (home_of cache) (deeds_of_act (act_at r Drop)) v).buckets d ≡ v.buckets d
-        by (Err fault) e = refl
-        by (Ok names) e =
-            uncut (v.buckets d) (is_path_of (home_of cache) (bucket_names_of d) names)
-            (λ here. not_content b d (sym (one_path (home_of cache) (content_names b) (bucket_names_of d) names (sym below ∙ e) here)))
+    uncut_buckets d = search (rules, uncut, not_content, one_path)
 
   -- at the place of a key's bucket
   module _ (key : List ℕ) (below : names_of path ≡ names_below (home_of cache) (bucket_names_of (sha1 key))) where
@@ -134,33 +125,22 @@ module _ (cache path : List ℕ) (v : Value) where
             (ap (joined []) (one_path (home_of cache) (bucket_names_of (sha1 key)) (bucket_names_of (sha1 other)) names (sym below ∙ e) here)))
 
     pub uncut_contents : (a : Hash) → cut_value.contents a ≡ v.contents a
-    uncut_contents a = by (names_of path) refl
-      where
-        by : (r : Result Names Fault) → names_of path ≡ r → (after_deeds (home_of cache) (deeds_of_act (act_at r Drop)) v).contents a ≡ v.contents a
-        by (Err fault) e = refl
-        by (Ok names) e =
-            uncut (v.contents a) (is_path_of (home_of cache) (content_names a) names)
-            (λ here. not_content a (sha1 key) (one_path (home_of cache) (bucket_names_of (sha1 key)) (content_names a) names (sym below ∙ e) here))
+    uncut_contents a = search (rules, uncut, not_content, one_path)
 
 -- what was removed of a tree's value is gone
 content_gone : (folder : Option Names) (path : List ℕ) (t : Tree) (b : Hash) → names_of path ≡ names_below folder (content_names b)
     → (after_deeds folder (removed_at path) (value_of_tree folder t)).contents b ≡ None
 content_gone None path t b below = ap (λ r. (after_deeds None (deeds_of_act (act_at r Drop)) (value_of_tree None t)).contents b) below
-content_gone (Some folder) path t b below =
-    ap (λ r. (after_deeds (Some folder) (deeds_of_act (act_at r Drop)) (value_of_tree (Some folder) t)).contents b) below
-    ∙ ap (λ here. cond here None ((value_of_tree (Some folder) t).contents b)) (same_self (folder ++ content_names b))
+content_gone (Some folder) path t b below = search (rules, same_self)
 
 pub bucket_gone : (folder : Option Names) (path : List ℕ) (w : Value) (d : List ℕ) → names_of path ≡ names_below folder (bucket_names_of d) → (folder ≡ None → w.buckets d ≡ None)
     → (after_deeds folder (removed_at path) w).buckets d ≡ None
 bucket_gone None path w d below none = ap (λ r. (after_deeds None (deeds_of_act (act_at r Drop)) w).buckets d) below ∙ none refl
-bucket_gone (Some folder) path w d below none =
-    ap (λ r. (after_deeds (Some folder) (deeds_of_act (act_at r Drop)) w).buckets d) below
-    ∙ ap (λ here. cond here None (w.buckets d)) (same_self (folder ++ bucket_names_of d))
+bucket_gone (Some folder) path w d below none = search (rules, same_self)
 
 -- a cache without a folder holds nothing
 pub nowhere : (folder : Option Names) (t : Tree) (d : List ℕ) → folder ≡ None → (value_of_tree folder t).buckets d ≡ None
-nowhere None t d e = refl
-nowhere (Some folder) t d e = absurd cc
+nowhere folder t d e = grind (arith, common_steps)
 
 -- ---- the last removal of a call
 
@@ -176,22 +156,7 @@ module _ (path : List ℕ) (t : Tree) (moves : Moves) (r : Reply) (folder : Opti
     pub ends : Ends r
 
   pub last_removal : Removal path (over replies.Done) t moves r → LastRemoval
-  last_removal (inl h) = record {
-    either = inl (ap (λ ds. after_deeds folder ds v) h.0);
-    done = λ e. let no : ◌≡◌ {A = Reply} replies.Done (replies.Refused h.1.0) = sym e ∙ h.1.1 in absurd cc;
-    ends = inr h.1;
-  }
-  last_removal (inr h) =
-      let o = over_run replies.Done r h.0 h.3 in
-      let value : after_deeds folder (deeds (turns_on t moves)) v ≡ after_deeds folder (removed_at path) v
-      = ap (λ ds. after_deeds folder ds v) h.2
-      ∙ ap (λ (ms : Moves). after_deeds folder ((removed_at path ++ []) ++ deeds (turns_on h.1 ms)) v) o.0
-      ∙ then_deeds folder (names_of path) [] v in
-      record {
-        either = inr value;
-        done = λ e. value;
-        ends = elim o.1 [ inl e ↦ inl e | inr e ↦ inr (OutOfMemory, e, tt) ];
-      }
+  last_removal h = grind (arith, over_run, then_deeds)
 
 -- ---- a content
 
@@ -203,9 +168,7 @@ module _ (cache base : List ℕ) (b : Hash) (bs : List Hash) (formed : IsIntegri
   place_below = content_below (setup_at cache []) b bs (All-head IsHash b bs formed.hashes)
 
   hash_last : LastRemoval place (tree_of old) k.call.moves r (home_of cache) (value_of_tree (home_of cache) (tree_of old))
-  hash_last =
-      last_removal place (tree_of old) k.call.moves r (home_of cache) (value_of_tree (home_of cache) (tree_of old))
-      (removal place (over replies.Done) (tree_of old) r k.call.moves k.run)
+  hash_last = search (rules, last_removal, removal)
 
   hash_contents : (a : Hash) → IsHash a
       → ((value_of_tree (home_of cache) (tree_of new)).contents a ≡ (value_of_tree (home_of cache) (tree_of old)).contents a)
@@ -236,27 +199,13 @@ module _ (cache base : List ℕ) (b : Hash) (bs : List Hash) (formed : IsIntegri
 
   hash_lies : (i : List Hash) → IsIntegrity i
       → (lies_under cache i new ≡ lies_under cache i old) ⊎ (ShareAddress i (b ∷ bs) × (lies_under cache i new ≡ None))
-  hash_lies [] is = inl refl
-  hash_lies (a ∷ hs) is =
-      elim (hash_contents a (All-head IsHash a hs is.hashes)) [
-        | inl same ↦ inl same
-        | inr gone ↦ inr (ap Some gone.0, gone.1)
-      ]
+  hash_lies i is = grind (arith, hash_contents)
 
   hash_content : (i : List Hash) (bytes : List ℕ) → (ShareAddress i (b ∷ bs) → ⊥) → HasContent cache i bytes old → HasContent cache i bytes new
-  hash_content i bytes apart h =
-      elim (hash_lies i h.formed) [
-        | inl same ↦ record { content = same ∙ h.content; formed = h.formed; meets = h.meets }
-        | inr gone ↦ absurd (apart gone.0)
-      ]
+  hash_content i bytes apart h = search (rules, hash_lies)
 
   hash_keeps : KeepsApart cache (b ∷ bs) old new
-  hash_keeps = record {
-    finds = hash_finds;
-    lies = hash_lies;
-    content = hash_content;
-    key = λ key bytes i apart h. record { found = h.found; finds = hash_finds key ∙ h.finds; integrity = h.integrity; content = hash_content i bytes apart h.content };
-  }
+  hash_keeps = search (rules, hash_finds, hash_lies, hash_content)
 
   hash_goes : r ≡ replies.Done → lies_under cache (b ∷ bs) new ≡ None
   hash_goes e =
@@ -271,11 +220,7 @@ Says X r old new = ⊥
 
 pub says : (cache base : List ℕ) (command : Command) (old new : List LogItem) (X : Type 0) → ((fault : Fault) → own_of command fault → ⊥) → (r : Reply)
     → Known cache base command r old new → (r ≡ replies.Done → X) → Ends r → Says X r old new
-says cache base command old new X none replies.Done k h ends = h refl
-says cache base command old new X none (replies.Refused e) k h (inl x) = absurd cc
-says cache base command old new X none (replies.Refused e) k h (inr is) = excuse cache base command old new none e k (subst FailsOnly (sym is.1) is.2)
-says cache base command old new X none other k h (inl x) = absurd cc
-says cache base command old new X none other k h (inr is) = let x = is.1 in absurd cc
+says cache base command old new X none r k h ends = grind (arith, excuse)
 
 pub contents_go : ContentsGo
 contents_go cache [] r old new formed sound c = absurd (omega (arith, formed.nonempty))

@@ -1,6 +1,6 @@
 -- What the removal of a key with its content leaves in a cache.
 -- What removals and clearings leave.
-use Rattle.std.proofs.{Common.{◌≡◌, ◌⊎◌, inl, inr, ℕ, List, [], ◌∷◌, ◌++◌, Option, None, Some, option_map, refl, sym, ap, subst, ◌∙◌, arith}, lemmas.List.Elements.{All-head}}
+use Rattle.std.proofs.{Common.{rules, ◌≡◌, ◌⊎◌, inl, inr, ℕ, List, [], ◌∷◌, ◌++◌, Option, None, Some, option_map, refl, sym, ap, subst, ◌∙◌, arith}, lemmas.List.Elements.{All-head}}
 use Rattle.std.specs.Prelude.{IfSome}
 use Rattle.sha1.specs.Sha1.{sha1}
 use Rattle.cacache_core.specs.{declared.{errors.Error.{TheVariants.{IoError, OutOfMemory, EntryNotFound, SizeMismatch, SerdeError, IntegrityError}, Error}, integrity.digest.Hash.{Hash}}, Integrity.{IsHash, IsIntegrity, address}, PathNames.{names_of, names_below, home_of}, Paths.{content_names, bucket_names_of}}
@@ -113,9 +113,7 @@ cut_found cache key f v formed = by f.integrity refl formed
 module _ (cache key : List ℕ) (v : Value) (none : home_of cache ≡ None → v.buckets (sha1 key) ≡ None) (r : Reply) where
   found_went : (o : Option Found) → IfSome o (λ f. IsIntegrity f.integrity) → (t : Tree) (moves : Moves) → Runs (remove_found cache key o) moves r
       → Went cache key o v (after_deeds (home_of cache) (deeds (turns_on t moves)) v) r
-  found_went None formed t moves run =
-      bucket_went cache key None v none v (uncut cache key None v) t moves r
-      (last_removal (bucket_path cache key) t moves r (home_of cache) v (removal (bucket_path cache key) (over replies.Done) t r moves run))
+  found_went None formed t moves run = search (rules, bucket_went, uncut, last_removal, removal)
   found_went (Some f) formed t moves run =
       let path = content_path cache f.integrity in
       elim (removal (content_path cache f.integrity) (remove_bucket cache key) t r moves run) [
@@ -131,9 +129,7 @@ module _ (cache key : List ℕ) (v : Value) (none : home_of cache ≡ None → v
 
 -- a read adds no deed to those after it
 behind_read : (t : Tree) (path : List ℕ) (step : PlainStep) (a : PlainAnswer) (more : Moves) → step ≡ steps.ReadAll path → deeds (turns_on t ((step, a) ∷ more)) ≡ deeds (turns_on t more)
-behind_read t path step a more is =
-    ap (λ x. (deeds_of_act (act_of x Plain a) ++ finds_in x a) ++ deeds (turns_on (apply t x Plain).1 more)) is
-    ∙ ap (λ tree. deeds (turns_on tree more)) (reading_keeps t path)
+behind_read t path step a more is = search (rules, reading_keeps)
 
 -- what the bytes of the bucket answer is what the key leads to
 pub found_held : (cache key bytes : List ℕ) (t : Tree) (step : PlainStep) → TurnHolds (setup_at cache []) (turn_of t Plain (step, answers.Bytes bytes)) → step ≡ steps.ReadAll (bucket_path cache key)
@@ -214,14 +210,7 @@ module _ (cache base key : List ℕ) (r : Reply) (old new : List LogItem) (sound
       ]
 
   key_keeps : KeepsApartFrom cache key old new
-  key_keeps = record {
-    finds = key_finds;
-    lies = key_lies;
-    content = λ i bytes apart h. elim (key_lies i h.formed) [
-      | inl same ↦ record { content = same ∙ h.content; formed = h.formed; meets = h.meets }
-      | inr cut ↦ absurd (apart cut.0)
-    ];
-  }
+  key_keeps = search (rules, key_finds, key_lies)
 
   key_lacks : r ≡ replies.Done → LacksKey cache key new
   key_lacks e =
@@ -265,13 +254,7 @@ removals_last cache key moment r old new utf8 early sound c =
 -- ---- clearings
 
 cleared : (cache base : List ℕ) (old new : List LogItem) → IsCache cache old → (r : Reply) → plain_reply r ≡ r → Known cache base commands.Clear r old new → Only replies.Done r → Empties cache r old new
-cleared cache base old new sound replies.Done plain k h =
-    record {
-      sound = k.sound;
-      nothing =
-          ap (value_of_tree (home_of cache)) k.leads
-          ∙ clears_all cache (tree_of old) k.call.moves sound.rooted k.run k.answers.disk (subst Rooted k.leads k.sound.rooted);
-    }
+cleared cache base old new sound replies.Done plain k h = search (rules, clears_all)
 cleared cache base old new sound (replies.Refused OutOfMemory) plain k h = inl (inl refl)
 cleared cache base old new sound (replies.Refused (IoError fault message)) plain k h =
     let cause : OfWalk fault ⊎ Faulted k.call.moves fault

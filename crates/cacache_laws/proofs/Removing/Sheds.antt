@@ -1,5 +1,5 @@
 -- Trees without what was at some paths and below them, and folders that are emptied.
-use Rattle.std.proofs.{Common.{◌≡◌, ◌⊎◌, inl, inr, ℕ, Bool, true, false, cond, List, [], ◌∷◌, ◌++◌, Option, None, refl, sym, ap, ap₂, ◌∙◌, append_assoc, append-nil, ◌==◌, Some, Ok, length, arith, length-append}, lemmas.{Slice.Eq.{bytes_eq-Decides}, Bool.{ne_eqb}}}
+use Rattle.std.proofs.{lemmas.{Grind.{common_steps}, Slice.Eq.{bytes_eq-Decides}, Bool.{ne_eqb}}, Common.{◌≡◌, ◌⊎◌, inl, inr, ℕ, Bool, true, false, cond, List, [], ◌∷◌, ◌++◌, Option, None, refl, sym, ap, ap₂, ◌∙◌, append_assoc, append-nil, ◌==◌, Some, Ok, length, arith, length-append}}
 use Rattle.std.specs.Prelude.{bytes_eq}
 use Rattle.cacache_core.specs.PathNames.{Names, names_of}
 use Rattle.cacache_store.specs.declared.store.answer.Name.{Name}
@@ -86,10 +86,7 @@ abbrev pub ShedAll : Tree → Tree → Names → List Name → Type 0
 ShedAll t new p ns = (q : Names) → look new q ≡ cond (among p ns q) None (look t q)
 
 shed_both : (b c : Bool) (x y z : Option Node) → x ≡ cond c None y → y ≡ cond b None z → x ≡ cond (cond b true c) None z
-shed_both true true x y z e f = e
-shed_both true false x y z e f = e ∙ f
-shed_both false true x y z e f = e
-shed_both false false x y z e f = e ∙ f
+shed_both b c x y z e f = grind (arith, common_steps)
 
 pub sheds_more : (t mid new : Tree) (p : Names) (n : Name) (ns : List Name) → Shed t mid (p ++ n.name ∷ []) → ShedAll mid new p ns → ShedAll t new p (n ∷ ns)
 sheds_more t mid new p n ns one more q = shed_both (under (p ++ n.name ∷ []) q) (among p ns q) (look new q) (look mid q) (look t q) (more q) (one q)
@@ -98,8 +95,7 @@ under_first : (b c : Bool) → b ≡ true → cond b true c ≡ true
 under_first b c e = rw e refl
 
 under_later : (b c : Bool) → c ≡ true → cond b true c ≡ true
-under_later true c e = refl
-under_later false c e = e
+under_later b c e = grind (arith, common_steps)
 
 -- what is below a name is below one of them
 pub listed_among : (p rest : Names) (n : Name) (ns : List Name) → IsAmong n ns → among p ns (p ++ n.name ∷ rest) ≡ true
@@ -118,8 +114,7 @@ folder_apart p [] = refl
 folder_apart p (n ∷ ns) = not_either (under (p ++ n.name ∷ []) p) (among p ns p) (under_upper p n.name) (folder_apart p ns)
 
 either : (b c : Bool) → cond b true c ≡ true → (b ≡ true) ⊎ (c ≡ true)
-either true c e = inl refl
-either false c e = inr e
+either b c e = grind (arith, common_steps)
 
 -- what is below one of them is below the folder
 pub among_below : (p : Names) (ns : List Name) (q : Names) → among p ns q ≡ true → (n : List ℕ) × (rest : Names) × (q ≡ p ++ n ∷ rest)
@@ -163,8 +158,7 @@ long_names p name = ne_eqb (length (p ++ name ∷ [])) 0 (λ e. omega (arith, e,
 -- ---- a folder without what was in it
 
 none_either : (b : Bool) → cond {A = Option Node} b None None ≡ None
-none_either true = refl
-none_either false = refl
+none_either b = grind (arith, common_steps)
 
 pub child_gone : (t new : Tree) (p : Names) (name : List ℕ) (here : Option Node) → ShedAll t new p (listing t p) → look t (p ++ name ∷ []) ≡ here → look new (p ++ name ∷ []) ≡ None
 child_gone t new p name None sheds is = sheds (p ++ name ∷ []) ∙ ap (λ x. cond (among p (listing t p) (p ++ name ∷ [])) None x) is ∙ none_either (among p (listing t p) (p ++ name ∷ []))
@@ -173,8 +167,4 @@ child_gone t new p name (Some node) sheds is =
 
 -- with all names in it a folder goes
 pub folder_shed : (t mid : Tree) (p q : Names) (ns : List Name) (b c : Bool) → under p q ≡ b → among p ns q ≡ c → look mid q ≡ cond c None (look t q) → cond b None (look mid q) ≡ cond b None (look t q)
-folder_shed t mid p q ns true c below some e = refl
-folder_shed t mid p q ns false true below some e =
-    let k = among_below p ns q some in
-    let wrong : false ≡ true = sym below ∙ ap (under p) k.2 ∙ under_self p (k.0 ∷ k.1) in cc
-folder_shed t mid p q ns false false below some e = e
+folder_shed t mid p q ns b c below some e = grind (arith, among_below, under_self)

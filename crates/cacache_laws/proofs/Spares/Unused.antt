@@ -1,6 +1,6 @@
 -- Which temporary files calls leave.
 -- The removal of a temporary file leaves what the cache holds.
-use Rattle.std.proofs.{Common.{◌≡◌, inl, inr, ℕ, Bool, true, false, List, [], ◌∷◌, ◌++◌, Option, None, Some, Result, Ok, refl, sym, ap, subst, ◌∙◌, Err, append-nil}, lemmas.{List.{append_cancel_left}, Bool.{cond-false}}}
+use Rattle.std.proofs.{Common.{arith, rules, ◌≡◌, inl, inr, ℕ, Bool, true, false, List, [], ◌∷◌, ◌++◌, Option, None, Some, Result, Ok, refl, sym, ap, subst, ◌∙◌, Err, append-nil}, lemmas.{Grind.{common_steps}, List.{append_cancel_left}, Bool.{cond-false}}}
 use Rattle.std.specs.Prelude.{IfOk}
 use Rattle.cacache_core.specs.{declared.errors.Fault.{Fault}, PathNames.{Names, names_of, home_of, names_below}, Paths.{temp_names, content_names, bucket_names_of}}
 use Rattle.cacache_store.specs.{declared.store.log.LogItem.{LogItem}, Plain.{PlainStep, PlainAnswer}}
@@ -34,8 +34,7 @@ calls_trace cache command r old new c may named sound =
 stays_none : (home : Option Names) (number : ℕ) (t : Tree) (moves : Moves) → Placed home t → IsTrace home t (plain_moves moves)
     → ((folder : Names) → home ≡ Some folder → NoneCreates (folder ++ temp_names number) moves) → node_below home t (temp_names number) ≡ None → node_below home (tree_on t moves) (temp_names number) ≡ None
 stays_none None number t moves placed trace never e = refl
-stays_none (Some folder) number t moves placed trace never e =
-    moves_spare (Some folder) (folder ++ temp_names number) (kind-below folder (temp_names number)) t moves placed trace (never folder refl) e
+stays_none (Some folder) number t moves placed trace never e = search (rules, moves_spare, kind-below)
 
 -- the same of a call
 call_leaves : (cache : List ℕ) (command : Command) (r : Reply) (old new : List LogItem) (c : Called cache command r old new) (number : ℕ)
@@ -48,8 +47,7 @@ call_leaves cache command r old new c number may named sound never unused =
 -- ---- calls that make no temporary file
 
 not_made : (q : Names) (step : PlainStep) → May (allows without_commits step) → Creates q step → ⊥
-not_made q (steps.CreateTemp p) may e = absurd may
-not_made q step may e = e
+not_made q step may e = grind (arith, common_steps)
 
 none_made : (q : Names) (moves : Moves) → AllMay without_commits moves → NoneCreates q moves
 none_made q [] may = tt
@@ -65,8 +63,7 @@ others_leave_none cache command r old new c may named keeps sound number unused 
 
 module _ (site : Site) (apart outside : List ℕ → Bool) (q : Names) (differ : names_of (temp_path site.cache site.number) ≡ Ok q → ⊥) where
   other_file : (step : PlainStep) → Allowed site apart outside step → Creates q step → ⊥
-  other_file (steps.CreateTemp p) allowed e = differ (ap names_of (sym allowed) ∙ e)
-  other_file step allowed e = e
+  other_file step allowed e = grind (arith, common_steps)
 
   other_files : (s : State) (moves : Moves) (r : Reply) → Sound site apart outside s → Runs s moves r → NoneCreates q moves
   other_files s [] r sound run = tt
@@ -102,8 +99,7 @@ puts_leave_own cache p r old new c number may sound few less differ unused =
 -- a number that names the put's own file, or another one
 by_file : (cache : List ℕ) (p : Put) (r : Reply) (old new : List LogItem) (c : Called cache (commands.Put p) r old new) (number : ℕ) → FitsEntry cache p → IsCache cache old
     → IsUnused cache c.number new → (b : Bool) → same_path (temp_names number) (temp_names c.number) ≡ b → IsUnused cache number old → IsUnused cache number new
-by_file cache p r old new c number fits sound own true e unused =
-    subst (λ ns. node_below (home_of cache) (tree_of new) ns ≡ None) (sym (same_path-true (temp_names number) (temp_names c.number) e)) own
+by_file cache p r old new c number fits sound own true e unused = search (rules, same_path-true)
 by_file cache p r old new c number fits sound own false e unused =
     put_leaves cache p r old new c number fits sound
     (λ folder s.
@@ -121,8 +117,7 @@ puts_leave_tidy cache p r old new c folder fits sound tidy =
 -- ---- a new store
 
 nowhere : (home : Option Names) (number : ℕ) → node_below home bare (temp_names number) ≡ None
-nowhere None number = refl
-nowhere (Some home) number = bare_below home _ _
+nowhere home number = grind (arith, bare_below)
 
 fresh_is_tidy : (cache : List ℕ) → IsTidy cache []
 unfolding tree_of
@@ -132,10 +127,7 @@ pub fresh_is_ready : FreshIsReady
 fresh_is_ready cache folder = record { folder = folder; tidy = fresh_is_tidy cache }
 
 pub same_is_ready : SameIsReady
-same_is_ready cache old new same ready = record {
-  folder = ready.folder;
-  tidy = λ number. subst (λ t. node_below (home_of cache) t (temp_names number) ≡ None) (sym same) (ready.tidy number);
-}
+same_is_ready cache old new same ready = search rules
 
 -- a call that makes no temporary file leaves a cache that is ready so
 pub stays_ready : (cache : List ℕ) (old new : List LogItem) → StaysUnused cache old new → IsReady cache old → IsReady cache new
@@ -146,15 +138,10 @@ stays_ready cache old new stays ready = record { folder = ready.folder; tidy = �
 module _ (home : Option Names) where
   -- at the path of a temporary file there is neither a content nor a bucket
   drop_alike : (r : Result Names Fault) (v : Value) → IfOk r (λ names. path_kind home names ≡ Temporary) → Alike (after_deeds home (deeds_of_act (act_at r Drop) ++ []) v) v
-  drop_alike (Err fault) v is = record { contents = λ a. refl; lists = λ d. refl }
-  drop_alike (Ok names) v is = record {
-    contents = λ a. cond-false (is_path_of home (content_names a) names) None (v.contents a) (unseen home (content_names a) names (λ e. let no : Content ≡ Temporary = e ∙ is in absurd cc));
-    lists = λ d. ap list_of (cond-false (is_path_of home (bucket_names_of d) names) None (v.buckets d) (unseen home (bucket_names_of d) names (λ e. let no : Bucket ≡ Temporary = e ∙ is in absurd cc)));
-  }
+  drop_alike r v is = grind (arith, unseen)
 
   done_alike : (a : PlainAnswer) (act : Act) (v : Value) → Alike (after_deeds home (deeds_of_act act ++ []) v) v → Alike (after_deeds home (deeds_of_act (act_if_done a act) ++ []) v) v
-  done_alike answers.Done act v h = h
-  done_alike other act v h = record { contents = λ a. refl; lists = λ d. refl }
+  done_alike a act v h = grind (arith, common_steps)
 
 module _ (cache path : List ℕ) (t : Tree) (sound : IsSound (home_of cache) t) where
   -- the tree after it is sound
@@ -191,11 +178,7 @@ temp_for cache number = (paths_are_for cache).temporary number
 
 -- nothing came to the log
 pub unchanged : (cache : List ℕ) (old new : List LogItem) → IsCache cache old → new ≡ old → LeavesKnownCache cache old new
-unchanged cache old new sound same = (
-  subst (IsCache cache) (sym same) sound,
-  same_stays_known cache old new (ap (λ log. value_of_tree (home_of cache) (tree_of log)) same),
-  ([], same ∙ sym (append-nil old)),
-)
+unchanged cache old new sound same = search (rules, same_stays_known)
 
 pub giving_up_lasts : GivingUpLasts
 giving_up_lasts cache number old new sound (inl same) logged = unchanged cache old new sound (some_same new old same)

@@ -1,6 +1,6 @@
 -- What calls answer if all of their steps succeed.
 -- Open writers if all of their steps succeed.
-use Rattle.std.proofs.{Common.{◌≡◌, inl, inr, ℕ, List, [], ◌∷◌, ◌++◌, Option, None, Some, Ok, refl, sym, ap, subst, ◌∙◌, arith, Err}, lemmas.List.Elements.{All-head}}
+use Rattle.std.proofs.{lemmas.{Grind.{common_steps}, List.Elements.{All-head}}, Common.{rules, ◌≡◌, inl, inr, ℕ, List, [], ◌∷◌, ◌++◌, Option, None, Some, Ok, refl, sym, ap, subst, ◌∙◌, arith, Err}}
 use Rattle.sha1.specs.Sha1.{sha1}
 use Rattle.cacache_core.specs.{declared.{errors.{Error.TheVariants.{EntryNotFound, IoError, OutOfMemory}, Fault.{Fault}}, integrity.digest.Hash.{Hash}}, Integrity.{IsHash, IsIntegrity, address}, PathNames.{Names, names_of, home_of}, Paths.{temp_names, folder_names}}
 use Rattle.cacache_store.specs.{declared.store.{log.LogItem.{LogItem}, plain.PlainTemp.{PlainTemp}}, Plain.{PlainAnswer}}
@@ -18,10 +18,7 @@ use Rattle.cacache_store.specs.declared.store.answer.Answer.TheVariants as answe
 -- ---- a store on which no step fails
 
 pub home_ground : (cache : List ℕ) (log : List LogItem) (home : Names) → home_of cache ≡ Some home → IsStanding cache log → Ground home (tree_of log)
-home_ground cache log home is standing = record {
-  placed = subst (λ h. Placed h (tree_of log)) is standing.placed;
-  rooted = standing.rooted;
-}
+home_ground cache log home is standing = search rules
 
 pub ground : (cache : List ℕ) (log : List LogItem) (home : Names) → names_of cache ≡ Ok home → IsStanding cache log → Ground home (tree_of log)
 ground cache log home is = home_ground cache log home (home_named cache home is)
@@ -31,8 +28,7 @@ pub back : (cache : List ℕ) (home : Names) → names_of cache ≡ Ok home → 
 back cache home is P p = subst P (sym (home_named cache home is)) p
 
 pub either : {A B : Type 0} (r : Reply) → (A → B) → OrMemory A r → OrMemory B r
-either r f (inl e) = inl e
-either r f (inr a) = inr (f a)
+either r f h = grind (arith, common_steps)
 
 -- ---- what stores
 
@@ -92,8 +88,7 @@ module _ (cache key : List ℕ) (home : Names) (is : home_of cache ≡ Some home
 
   by_found : (found : Option Found) → HasIntegrity found → EndsSo (λ _ x. x ≡ get_on (setup_at cache []) t key found) t (found_for look_up aims.Read found)
   by_found None has = ends (λ _ x. x ≡ Refused (EntryNotFound cache key)) t (Refused (EntryNotFound cache key)) refl
-  by_found (Some f) has =
-      subst (λ h. EndsSo (λ _ x. x ≡ read_on h t f.integrity) t (reading (record { cache = cache; integrity = f.integrity }))) (sym is) (reads_at cache home is t g f.integrity has)
+  by_found (Some f) has = search (rules, reads_at, g)
 
 -- a read by key of what is there, if what the key leads to has an integrity
 pub standing_key_reads : (cache key : List ℕ) (home : Names) (r : Reply) (old new : List LogItem) → home_of cache ≡ Some home → IsStanding cache old → HasIntegrity (found_under cache key old)
@@ -191,9 +186,7 @@ module _ (cache : List ℕ) (number : ℕ) (old new : List LogItem) (logged : Is
     folder_done = folder_is ∙ ap (λ (r : PlainAnswer × Tree). (answers.Done, r.1)) (sym folder_is)
 
     file_made : (apply made (make_file cache number) Plain).0 ≡ answers.Temp (made_temp (temp_path cache number))
-    file_made =
-        ap (λ (r : PlainAnswer × Tree). (apply r.1 (make_file cache number) Plain).0) folder_is
-        ∙ ap (λ (r : PlainAnswer × Tree). r.0) (made_file cache home folder.1 number (tree_of old) g free)
+    file_made = search (rules, folder_is, made_file, g, free)
 
 pub openings_succeed : OpeningsSucceed
 openings_succeed cache number (Ok file) old new folder standing unused opens logged = (opened_file cache number old new logged file opens.0 opens.1 opens.2, tt)

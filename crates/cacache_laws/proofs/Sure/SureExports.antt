@@ -1,5 +1,5 @@
 -- An export in which all steps succeed.
-use Rattle.std.proofs.{Common.{◌≡◌, option_map, ℕ, List, [], ◌∷◌, ◌++◌, Option, None, Some, Result, Ok, Err, length, take, refl, sym, ap, subst, ◌∙◌, arith}, lemmas.List.{take_all, Elements.{All-head}}}
+use Rattle.std.proofs.{lemmas.{Grind.{common_steps}, List.{take_all, Elements.{All-head}}}, Common.{rules, ◌≡◌, option_map, ℕ, List, [], ◌∷◌, ◌++◌, Option, None, Some, Result, Ok, Err, length, take, refl, sym, ap, subst, ◌∙◌, arith}}
 use Rattle.sha1.specs.Sha1.{sha1}
 use Rattle.cacache_core.specs.{declared.{errors.{Error.TheVariants.{EntryNotFound, IoError, IntegrityError}, Fault.{Fault}, IntegrityFault.TheVariants.{Check}}, integrity.digest.Hash.{Hash}}, Integrity.{IsHash, IsIntegrity, actual, address}, Meeting.{meets}, PathNames.{Names, home_of}, Paths.{content_names}}
 use Rattle.cacache_core.specs.declared.errors.Fault.TheVariants as faults
@@ -21,17 +21,14 @@ use Rattle.cacache_laws.proofs.{Putting.WrittenFiles.{written_shown}, Exports.Sh
 
 -- the bytes that a copy takes are those that a read gives
 same_node : (here : Option Node) (bytes : List ℕ) → bytes_there faults.InvalidInput here ≡ Ok bytes → bytes_there faults.IsADirectory here ≡ Ok bytes
-same_node (Some Folder) bytes e = absurd cc
-same_node here bytes e = e
+same_node here bytes e = grind (arith, common_steps)
 
 same_end : (t : Tree) (end : Result Names Fault) (bytes : List ℕ) → and_then end (λ names. bytes_there faults.InvalidInput (look t names)) ≡ Ok bytes
     → and_then end (λ names. bytes_there faults.IsADirectory (look t names)) ≡ Ok bytes
-same_end t (Ok names) bytes e = same_node (look t names) bytes e
-same_end t (Err fault) bytes e = e
+same_end t end bytes e = grind (arith, same_node)
 
 pub read_too : (t : Tree) (blob : Option Blob) (bytes : List ℕ) → blob_read faults.InvalidInput t blob ≡ Ok bytes → blob_bytes t blob ≡ Ok bytes
-read_too t (Some (AtLink target)) bytes e = same_end t (link_end t target) bytes e
-read_too t blob bytes e = e
+read_too t blob bytes e = grind (arith, same_end)
 
 -- the node that a hard link is a name of
 abbrev named : Option Node → Result Node Fault
@@ -41,19 +38,13 @@ named (Some node) = Ok node
 module _ (home : Names) (t : Tree) (p : List ℕ) (names : Names) where
   named_as : (here : Option Node) → look t names ≡ here → MayStand (Some home) here AtContent → Reached t p names → linked t p ≡ named here
   unfolding linked
-  named_as None e s (missing h w) = rw w refl
-  named_as (Some Folder) e s r = absurd s
-  named_as (Some (File bytes)) e s (missing h w) = let differ : Some (File bytes) ≡ None = sym e ∙ h in absurd cc
-  named_as (Some (Link target)) e s (missing h w) = let differ : Some (Link target) ≡ None = sym e ∙ h in absurd cc
-  named_as here e s (arrives w) = rw (w, e) refl
+  named_as here e s h = grind (arith, missing, arrives)
 
   told_so : (here : Option Node) → MayStand (Some home) here AtContent → or_told (named here) (λ node. Done) ≡ or_told (blob_named (blob_in here)) (λ blob. Done)
-  told_so (Some Folder) s = absurd s
-  told_so here s = refl
+  told_so here s = grind (arith, common_steps)
 
 file_there : (here : Option Node) (bytes : List ℕ) → blob_in here ≡ Some (InFile bytes) → here ≡ Some (File bytes)
-file_there (Some (File b)) bytes e = let same : InFile b ≡ InFile bytes = cc in let is : b ≡ bytes = cc in ap (λ x. Some (File x)) is
-file_there here bytes e = absurd cc
+file_there here bytes e = grind (arith, common_steps)
 
 -- unless it is refused the path shows the bytes that a copy took, or those of the file that lies there
 abbrev pub Shows : List ℕ → Tree → Option Blob → Tree → Reply → Type 0
@@ -94,23 +85,17 @@ module _ (cache : List ℕ) (home : Names) (is : home_of cache ≡ Some home) (t
     copy_is : (r : Result (List ℕ) Fault) (w : Result Names Fault) → file_at t path faults.InvalidInput ≡ r → writable t e.to ≡ w
         → apply t (steps.Copy path e.to) Plain ≡ unless r t (λ bytes. unless w t (λ q. (answers.Took (length bytes), put t q (File (take (length bytes) bytes)))))
     unfolding apply
-    copy_is r w from to =
-        ap (λ x. unless x t (λ bytes. unless (writable t e.to) t (λ q. (answers.Took (length bytes), put t q (File (take (length bytes) bytes)))))) from
-        ∙ ap (λ x. unless r t (λ bytes. unless x t (λ q. (answers.Took (length bytes), put t q (File (take (length bytes) bytes)))))) to
+    copy_is r w from to = search rules
 
     reflink_is : (w : Result Names Fault) (r : Result (List ℕ) Fault) → free t e.to ≡ w → file_at t path faults.IsADirectory ≡ r
         → apply t (steps.Reflink path e.to) Plain ≡ unless w t (λ q. unless r t (λ bytes. (answers.Done, put t q (File bytes))))
     unfolding apply
-    reflink_is w r to from =
-        ap (λ x. unless x t (λ q. unless (file_at t path faults.IsADirectory) t (λ bytes. (answers.Done, put t q (File bytes))))) to
-        ∙ ap (λ x. unless w t (λ q. unless x t (λ bytes. (answers.Done, put t q (File bytes))))) from
+    reflink_is w r to from = search rules
 
     hard_link_is : (w : Result Names Fault) (n : Result Node Fault) → free t e.to ≡ w → linked t path ≡ n
         → apply t (steps.HardLink path e.to) Plain ≡ unless w t (λ q. unless n t (λ node. (answers.Done, put t q node)))
     unfolding apply
-    hard_link_is w n to from =
-        ap (λ x. unless x t (λ q. unless (linked t path) t (λ node. (answers.Done, put t q node)))) to
-        ∙ ap (λ x. unless w t (λ q. unless x t (λ node. (answers.Done, put t q node)))) from
+    hard_link_is w n to from = search rules
 
     -- a refusal
     refused : (fault : Fault) → EndsSo (Gives blob (Refused (IoError fault []))) t (over (Refused (IoError fault [])))
@@ -199,9 +184,7 @@ module _ (cache : List ℕ) (home : Names) (is : home_of cache ≡ Some home) (t
         (reads_whole (Gives blob wanted) t (to_verify k e) bytes (verified_ends bytes from) bytes [] refl)
 
     export_ends : Leads blob (exported_reply (h ∷ hs) e t blob) (export k e)
-    export_ends =
-        both (Leads blob) e.checked (or_told (blob_bytes t blob) (verified_reply (h ∷ hs) (made_reply e.how e.to t blob))) (made_reply e.how e.to t blob) (opening_file (to_verify k e)) (export_content k e None)
-        (checked_ends (blob_bytes t blob) refl) (made_ends e.how None (λ bytes from. refl))
+    export_ends = search (rules, both, checked_ends, made_ends)
 
   -- what lies under an integrity
   abbrev pub lies_at : List Hash → Option Blob
@@ -223,16 +206,14 @@ module _ (cache key : List ℕ) (home : Names) (is : home_of cache ≡ Some home
   led_to (Some f) = lies_at cache home is (tree_of old) g e f.integrity
 
   by_found : (found : Option Found) → HasIntegrity found → EndsSo (Gives cache home is (tree_of old) g e (led_to found) (led_reply cache key e old found)) (tree_of old) (found_for look_up (aims.Export e) found)
-  by_found None has =
-      ends (Gives cache home is (tree_of old) g e None (Refused (EntryNotFound cache key))) (tree_of old) (Refused (EntryNotFound cache key)) (refl, refl, tt)
+  by_found None has = search (rules, ends)
   by_found (Some f) has =
       subst
       (λ h. EndsSo (Gives cache home is (tree_of old) g e (lies_at cache home is (tree_of old) g e f.integrity) (exported_reply f.integrity e (tree_of old) (blob_at (value_of_tree h (tree_of old)) (address f.integrity)))) (tree_of old) (export (record { cache = cache; integrity = f.integrity }) e))
       (sym is) (content_ends cache home is (tree_of old) g e f.integrity has)
 
   led_blob : (found : Option Found) (i : List Hash) → option_map (λ (f : Found). f.integrity) found ≡ Some i → led_to found ≡ lies_at cache home is (tree_of old) g e i
-  led_blob None i leads = absurd cc
-  led_blob (Some f) i leads = let same : f.integrity ≡ i = cc in ap (lies_at cache home is (tree_of old) g e) same
+  led_blob found i leads = grind (arith, common_steps)
 
 -- it answers so, and unless it is refused its path shows what lies where the source leads
 abbrev pub Told : List ℕ → Source → Export → Reply → List LogItem → List LogItem → Type 0
@@ -279,8 +260,4 @@ exports_answer cache source e r old new folder formed sound c =
 -- for a source that leads to this integrity
 pub by_held : (cache : List ℕ) (source : Source) (i : List Hash) (e : Export) (old : List LogItem) → NamesHeld cache source i old → export_reply cache source e old ≡ exported_reply i e (tree_of old) (lies_under cache i old)
 by_held cache (sources.Hash j) i e old leads = ap (λ j. exported_reply j e (tree_of old) (lies_under cache j old)) leads
-by_held cache (sources.Key key) i e old leads = by (found_under cache key old) leads
-  where
-    by : (found : Option Found) → option_map (λ (x : Found). x.integrity) found ≡ Some i → led_reply cache key e old found ≡ exported_reply i e (tree_of old) (lies_under cache i old)
-    by None is = absurd cc
-    by (Some f) is = let same : f.integrity ≡ i = cc in ap (λ j. exported_reply j e (tree_of old) (lies_under cache j old)) same
+by_held cache (sources.Key key) i e old leads = search rules

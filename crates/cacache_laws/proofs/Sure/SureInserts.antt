@@ -1,5 +1,5 @@
 -- An insertion in which all steps succeed.
-use Rattle.std.proofs.{Common.{◌≡◌, ℕ, true, false, nat_le, List, [], ◌∷◌, ◌++◌, Option, None, Some, Ok, length, take, drop, refl, sym, ap, ◌∙◌, arith, append_assoc}, lemmas.Bool.{le-leb}}
+use Rattle.std.proofs.{Common.{rules, ◌≡◌, ℕ, true, false, nat_le, List, [], ◌∷◌, ◌++◌, Option, None, Some, Ok, length, take, drop, refl, sym, ap, ◌∙◌, arith, append_assoc}, lemmas.Bool.{le-leb}}
 use Rattle.std.specs.Prelude.{All}
 use Rattle.hex.specs.Hex.{encode_lower}
 use Rattle.sha1.specs.Sha1.{sha1}
@@ -80,9 +80,7 @@ module _ (i : Insertion) (home : Names) (is : names_of i.cache ≡ Ok home) (t :
   done = put made (home ++ bucket_names i.entry.key) (File (bytes_of (look made (home ++ bucket_names i.entry.key)) ++ take (length (bucket_line i)) (bucket_line i)))
 
   appended : apply made (steps.Append (bucket_path i.cache i.entry.key) (bucket_line i)) Plain ≡ (answers.Took (length (bucket_line i)), done)
-  appended =
-      appends home made (bucket_path i.cache i.entry.key) (home ++ bucket_names i.entry.key) (bucket_line i)
-      (suits (Some home) made (home ++ bucket_names i.entry.key) Bucket lies.kind made_ground.placed) led
+  appended = search (rules, appends, suits, lies, made_ground, led)
 
   done_rooted : Rooted done
   done_rooted = outcome_rooted made done (steps.Append (bucket_path i.cache i.entry.key) (bucket_line i)) Plain (answers.Took (length (bucket_line i))) made_ground.rooted appended

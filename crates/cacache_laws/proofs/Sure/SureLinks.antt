@@ -1,5 +1,5 @@
 -- A link, and an open linker's commit, in which all steps succeed.
-use Rattle.std.proofs.{Common.{◌≡◌, ℕ, cond, List, [], ◌∷◌, ◌++◌, Option, None, Some, Result, Ok, Err, length, refl, sym, ap, subst, ◌∙◌, arith, append_assoc}, lemmas.List.{length-append}}
+use Rattle.std.proofs.{Common.{rules, ◌≡◌, ℕ, cond, List, [], ◌∷◌, ◌++◌, Option, None, Some, Result, Ok, Err, length, refl, sym, ap, subst, ◌∙◌, arith, append_assoc}, lemmas.List.{length-append}}
 use Rattle.cacache_core.specs.{declared.{errors.{Error.TheVariants.{IoError}, Fault.{Fault}}, integrity.digest.Hash.{Hash}}, Digests.{digest}, Integrity.{IsHash, hash_of}, PathNames.{Names, names_of}, Paths.{content_names}}
 use Rattle.cacache_core.specs.declared.errors.Fault.TheVariants as faults
 use Rattle.cacache_store.specs.declared.store.answer.Answer.TheVariants as answers
@@ -103,8 +103,7 @@ module _ (target : Target ℕ) (bytes : List ℕ) (home : Names) (is : names_of 
   by_answer (answers.There there) asked e =
       goes (Says (cond there stored refused)) made made (confirming c faults.AlreadyExists) (steps.Exists path) (answers.There there) refl e
       (both (λ reply s. EndsSo (Says reply) made s) there stored refused (secured_found c) (fails faults.AlreadyExists) (placed_so made made_ground) (ends (Says refused) made refused refl))
-  by_answer (answers.Failed fault) asked e =
-      goes (Says refused) made made (confirming c faults.AlreadyExists) (steps.Exists path) (answers.Failed fault) refl e (ends (Says refused) made refused refl)
+  by_answer (answers.Failed fault) asked e = search (rules, goes, ends)
   by_answer other asked e = absurd asked
 
   confirmed : (node : Node) (blob : Blob) → look t names ≡ Some node → MayStand (Some home) (Some node) Content → blob_in (Some node) ≡ Some blob
@@ -160,9 +159,7 @@ module _ (cache : List ℕ) (home : Names) (is : names_of cache ≡ Ok home) (ol
   -- from its first step on
   pub whole_of : (target : Target ℕ) → target.cache ≡ cache → IsFor (Some home) Elsewhere target.path → (r : Result (List ℕ) Fault) → file_at t target.path faults.IsADirectory ≡ r
       → EndsSo (λ new x. x ≡ link_reply target old r) t (sizing target)
-  whole_of target here apart (Err fault) e =
-      goes (λ new x. x ≡ Refused (IoError fault [])) t t (sizing target) (steps.Size target.path) (answers.Failed fault) refl (sizes_as t target.path (Err fault) e)
-      (ends (λ new x. x ≡ Refused (IoError fault [])) t (Refused (IoError fault [])) refl)
+  whole_of target here apart (Err fault) e = search (rules, goes, sizes_as, ends)
   whole_of target here apart (Ok held) e =
       let Q : Tree → Reply → Type 0 = λ new x. x ≡ link_reply target old (Ok held) in
       let sized = with_size target (length held) in

@@ -1,5 +1,5 @@
 -- A listing in which all steps succeed.
-use Rattle.std.proofs.{Common.{◌≡◌, inl, inr, ◌+◌, ◌-◌, ℕ, Bool, true, false, cond, nat_le, nat_lt, List, [], ◌∷◌, ◌++◌, Option, None, Some, Ok, option_map, length, take, refl, sym, ap, subst, ◌∙◌, append_assoc}, lemmas.List.Elements.{All-head}}
+use Rattle.std.proofs.{Common.{arith, ◌≡◌, inl, inr, ◌+◌, ◌-◌, ℕ, Bool, true, false, cond, nat_le, nat_lt, List, [], ◌∷◌, ◌++◌, Option, None, Some, Ok, option_map, length, take, refl, sym, ap, subst, ◌∙◌, append_assoc}, lemmas.{Grind.{common_steps}, List.Elements.{All-head}}}
 use Rattle.std.specs.{Prelude.{filter_map, suc, map as each}, List.{AllByRecursion, cons_option}}
 use Rattle.hex.specs.Hex.{encode_lower}
 use Rattle.sha1.specs.Sha1.{sha1}
@@ -34,8 +34,7 @@ front_all (suc n) (x ∷ xs) h = (h.0, front_all n xs h.1)
 front_all n xs h = tt
 
 more_all : (o : Option Found) (items : List Item) → AllItems items → AllItems (cons_option (option_map Ok o) items)
-more_all None items h = h
-more_all (Some found) items h = (tt, h)
+more_all o items h = grind (arith, common_steps)
 
 keys_all : (es : List Entry) (keys : List (List ℕ)) → AllItems (filter_map (λ key. option_map Ok (latest key es)) keys)
 keys_all es [] = tt
@@ -63,13 +62,11 @@ many_fine items left all moves r run = over_fine (Listed (items ++ failed faults
 -- ---- what is in the index
 
 no_link : (home : Option Names) (target : List ℕ) (rest : Names) → MayStand home (Some (Link target)) (kind_in_area Bucket 3 rest) → ⊥
-no_link home target (a ∷ b ∷ c ∷ []) s = s
-no_link home target rest s = s
+no_link home target rest s = grind (arith, common_steps)
 
 pub no_folder : (t : Tree) (p : List ℕ) (names : Names) → look t names ≡ None → Reached t p names → apply t (steps.ReadDir p) Plain ≡ (answers.Failed faults.NotFound, t)
 unfolding apply folder
-no_folder t p names e (arrives w) = rw (w, e) refl
-no_folder t p names e (missing h w) = rw w refl
+no_folder t p names e h = grind (arith, arrives, missing)
 
 gives_all : (t : Tree) (p : List ℕ) (names : Names) (bytes : List ℕ) → Rooted t → names_of p ≡ Ok names → look t names ≡ Some (File bytes) → apply t (steps.ReadAll p) Plain ≡ (answers.Bytes bytes, t)
 unfolding apply
@@ -99,16 +96,11 @@ module _ (home : Names) (t : Tree) (g : Ground home t) where
   more_good (x ∷ xs) ys h k = (h.0, more_good xs ys h.1 k)
 
   deeper_good : (b : Bool) (p : List ℕ) (level : ℕ) → Good (Enter p (level + 1)) → GoodTask (cond b (Make (Enter p (level + 1))) (Stumble faults.TooDeep p))
-  deeper_good true p level good = good
-  deeper_good false p level good = refl
+  deeper_good b p level good = grind (arith, common_steps)
 
   one_good : (k : Kind) (node : Node) (level : ℕ) (p : List ℕ) (rest : Names) → k ≡ kind_of node → names_of p ≡ Ok (home ++ index_area ∷ rest) → look t (home ++ index_area ∷ rest) ≡ Some node
       → GoodTask (task_for_name false level p k)
-  one_good kinds.Folder Folder level p rest e is there = deeper_good (nat_lt level 16) p level (rest, is, there)
-  one_good kinds.File (File bytes) level p rest e is there = (rest, bytes, is, there)
-  one_good kinds.Link (Link target) level p rest e is there =
-      absurd (no_link (Some home) target rest (subst (λ n. MayStand (Some home) n (kind_in_area Bucket 3 rest)) there (suits (Some home) t (home ++ index_area ∷ rest) (kind_in_area Bucket 3 rest) (kind-below home (index_area ∷ rest)) g.placed)))
-  one_good k node level p rest e is there = absurd cc
+  one_good k node level p rest e is there = grind (arith, deeper_good, no_link, suits, kind-below)
 
   names_good : (level : ℕ) (p : List ℕ) (rest : Names) → names_of p ≡ Ok (home ++ index_area ∷ rest) → (ns : List Name) → Each (Told t (home ++ index_area ∷ rest)) ns → GoodTasks (tasks_of false level p ns)
   names_good level p rest is [] told = tt

@@ -1,5 +1,5 @@
 -- A put in which all steps succeed.
-use Rattle.std.proofs.{Common.{◌≡◌, ◌==◌, ℕ, true, false, cond, List, [], ◌∷◌, ◌++◌, None, Some, Result, Ok, length, take, drop, refl, sym, ap, subst, ◌∙◌, arith}, lemmas.{Bool.{ne_eqb}, List.{drop_all}}}
+use Rattle.std.proofs.{Common.{rules, ◌≡◌, ◌==◌, ℕ, true, false, cond, List, [], ◌∷◌, ◌++◌, None, Some, Result, Ok, length, take, drop, refl, sym, ap, subst, ◌∙◌, arith}, lemmas.{Bool.{ne_eqb}, List.{drop_all}}}
 use Rattle.cacache_core.specs.{declared.{errors.Fault.{Fault}, integrity.digest.Hash.{Hash}}, Digests.{digest}, Integrity.{IsHash, hash_of}, PathNames.{Names, names_of}, Paths.{content_names, folder_names, temp_names}}
 use Rattle.cacache_core.specs.declared.errors.Fault.TheVariants as faults
 use Rattle.cacache_store.specs.declared.store.plain.PlainTemp.{PlainTemp}
@@ -112,8 +112,7 @@ module _ (cache : List ℕ) (home : Names) (is : names_of cache ≡ Ok home) (p 
       (λ plain. placed_now)
 
   moved_in : Plays (Ended (put_reply cache p)) made (persisting (put_commit cache p) file)
-  moved_in =
-      goes (Ended (put_reply cache p)) made stored (persisting (put_commit cache p) file) (steps.Persist file (content_path cache (put_commit cache p).computed)) answers.Done refl persisted tt secured_ends
+  moved_in = search (rules, goes, persisted, secured_ends)
 
   synced : apply made (steps.SyncTemp file) Plain ≡ (answers.Synced file, made)
   unfolding apply

@@ -1,5 +1,5 @@
 -- Openings of readers and linkers in which all steps succeed.
-use Rattle.std.proofs.{Common.{◌≡◌, inl, inr, ℕ, List, [], ◌∷◌, ◌++◌, Option, None, Some, Result, Ok, Err, length, map, refl, sym, ap, subst, ◌∙◌, arith}, lemmas.List.Elements.{All-head}}
+use Rattle.std.proofs.{lemmas.{Grind.{common_steps}, List.Elements.{All-head}}, Common.{◌≡◌, inl, inr, ℕ, List, [], ◌∷◌, ◌++◌, Option, None, Some, Result, Ok, Err, length, map, refl, sym, ap, subst, ◌∙◌, arith}}
 use Rattle.sha1.specs.Sha1.{sha1}
 use Rattle.cacache_core.specs.{declared.{errors.{Error.{Error, TheVariants.{EntryNotFound, IoError, OutOfMemory}}, Fault.{Fault}}, integrity.digest.Hash.{Hash}}, Integrity.{IsHash, IsIntegrity, address}, PathNames.{home_of}}
 use Rattle.cacache_core.specs.declared.errors.Fault.TheVariants as faults
@@ -36,15 +36,11 @@ module _ (path : List ℕ) (old new : List LogItem) (logged : IsLog new) where
 
 -- memory may always be refused
 memory_so : (r : Result (List ℕ) Fault) (e : Error) → e ≡ OutOfMemory → OpensAs r (Err e)
-memory_so (Ok bytes) e is = is
-memory_so (Err fault) e is = inl is
+memory_so r e is = grind (arith, common_steps)
 
 opens_so : (path : List ℕ) (content : Result (List ℕ) Fault) (r : Result PlainFile Error) (old new : List LogItem) → file_at (tree_of old) path faults.IsADirectory ≡ content
     → OpensTarget path r (Some old) (Some new) → IsLog new → OpensAs content r
-opens_so path content (Ok file) old new is h logged = opened_so path old new logged content is file h
-opens_so path content (Err (IoError fault message)) old new is h logged = failed path old new logged content is fault message h
-opens_so path content (Err OutOfMemory) old new is h logged = memory_so content OutOfMemory refl
-opens_so path content r old new is h logged = absurd h
+opens_so path content r old new is h logged = grind (arith, opened_so, failed, memory_so)
 
 pub linker_openings_answer : LinkerOpeningsAnswer
 linker_openings_answer path r old new h logged = opens_so path (target_bytes path old) r old new refl h logged
@@ -61,9 +57,7 @@ module _ (path : List ℕ) (old new : List LogItem) (logged : IsLog new) where
       by (Err other) is = let one : fault ≡ other = cc in inr (ap (λ f. IoError f []) one)
 
   size_fails : (e : Error) → FailsAt (steps.Size path) e (Some old) (Some new) → OpensAs (target_bytes path old) (Err e)
-  size_fails (IoError fault message) h = size_failed (target_bytes path old) refl fault message h
-  size_fails OutOfMemory h = memory_so (target_bytes path old) OutOfMemory refl
-  size_fails e h = absurd h
+  size_fails e h = grind (arith, size_failed, memory_so)
 
   -- once it was reported the file is opened
   size_told : (r : Result PlainFile Error) (size : ℕ) (mid : Option (List LogItem)) → TellsSize path size (Some old) mid → OpensTarget path r mid (Some new) → OpensAs (target_bytes path old) r
@@ -84,8 +78,7 @@ sized_openings_answer path (Err e) old new (inr h) logged = size_told path old n
 -- ---- by integrity
 
 as_target : (cache : List ℕ) (i : List Hash) (r : Result PlainFile Error) (old new : Option (List LogItem)) → OpensContent cache i r old new → OpensTarget (content_path cache i) r old new
-as_target cache i (Ok file) old new h = h
-as_target cache i (Err e) old new h = h
+as_target cache i r old new h = grind (arith, common_steps)
 
 pub readers_answer : ReadersAnswer
 readers_answer cache [] r old new folder standing formed h logged = absurd (omega (arith, formed.nonempty))
@@ -104,8 +97,7 @@ module _ (cache base key : List ℕ) (old new : List LogItem) (folder : NamesFol
   looked r mid plain ran is_log = lookups_answer cache key r old mid folder (caches_stand cache old sound) (record { base = base; number = 0; ran = ran; plain = plain; logged = is_log })
 
   memory_led : (found : Option Found) (e : Error) → e ≡ OutOfMemory → OpensLed cache key found (Err e) old
-  memory_led None e is = inl is
-  memory_led (Some f) e is = memory_so (bytes_under cache f.integrity old) e is
+  memory_led found e is = grind (arith, memory_so)
 
   refused : (e : Error) → LookupRan cache base key (Refused (without_message e)) (Some old) (Some new) → OpensLed cache key (found_under cache key old) (Err e) old
   refused e ran =

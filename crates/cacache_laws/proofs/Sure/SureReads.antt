@@ -1,6 +1,6 @@
 -- Lookups, reads, questions and removals in which all steps succeed.
 -- A file is opened and read to its end, if no step fails without cause.
-use Rattle.std.proofs.{Common.{◌≡◌, ◌⊎◌, inl, inr, ℕ, Bool, true, false, cond, List, [], ◌∷◌, ◌++◌, Option, None, Some, Result, Ok, Err, refl, sym, ap, subst, ◌∙◌, ◌==◌, ◌<◌, zero, suc, length, take, drop, arith, append_assoc, append-nil, take-append-drop, length-drop}, lemmas.{Bool.{eq-eqb, cond-true}, List.{length-take, nil_from_length}}}
+use Rattle.std.proofs.{lemmas.{Grind.{common_steps}, Bool.{eq-eqb, cond-true}, List.{length-take, nil_from_length}}, Common.{rules, ◌≡◌, ◌⊎◌, inl, inr, ℕ, Bool, true, false, cond, List, [], ◌∷◌, ◌++◌, Option, None, Some, Result, Ok, Err, refl, sym, ap, subst, ◌∙◌, ◌==◌, ◌<◌, zero, suc, length, take, drop, arith, append_assoc, append-nil, take-append-drop, length-drop}}
 use Rattle.cacache_core.specs.{declared.{errors.{Error.TheVariants.{IoError, IntegrityError}, Fault.{Fault}, IntegrityFault.TheVariants.{Check}}, integrity.digest.Hash.{Hash}}, Integrity.{IsHash, actual}, Meeting.{meets}, PathNames.{Names, home_of}, Paths.{bucket_names, content_names}}
 use Rattle.cacache_store.specs.Plain.{PlainAnswer}
 use Rattle.cacache_disk.specs.{declared.{luck.Luck.TheVariants.{Plain}, node.Node.{Node, TheVariants.{Folder, File, Link}}}, Tree.{Tree, look, cut}, LedTo.{leads, followed, file_at, found, removable}, Apply.{apply, is_there, opened, rest_of, unless}}
@@ -27,54 +27,32 @@ file_told (Some (Link target)) = answers.Failed faults.TooDeep
 bucket_read : (home : Names) (t : Tree) (p : List ℕ) (names : Names) (here : Option Node) → look t names ≡ here → MayStand (Some home) here Bucket → Reached t p names
     → apply t (steps.ReadAll p) Plain ≡ (file_told here, t)
 unfolding apply file_at leads followed
-bucket_read home t p names None e s (missing h w) = rw w refl
-bucket_read home t p names (Some Folder) e s r = absurd s
-bucket_read home t p names (Some (File bytes)) e s (missing h w) = let differ : Some (File bytes) ≡ None = sym e ∙ h in absurd cc
-bucket_read home t p names (Some (Link target)) e s r = absurd s
-bucket_read home t p names here e s (arrives w) = rw (w, e, e) refl
+bucket_read home t p names here e s h = grind (arith, missing, arrives)
 
 -- ---- what a content's path answers
 
 pub told_all : (t : Tree) (p : List ℕ) (r : Result (List ℕ) Fault) → file_at t p faults.IsADirectory ≡ r → apply t (steps.ReadAll p) Plain ≡ (said r, t)
 unfolding apply
-told_all t p (Ok bytes) e = rw e refl
-told_all t p (Err fault) e = rw e refl
+told_all t p r e = grind (arith, common_steps)
 
 -- the bytes of a content, if a folder at a link's end gives `IsADirectory`
 pub as_bytes : (t : Tree) (blob : Option Blob) → blob_read faults.IsADirectory t blob ≡ blob_bytes t blob
-as_bytes t (Some (InFile bytes)) = refl
-as_bytes t blob = refl
+as_bytes t blob = grind (arith, common_steps)
 
 module _ (home : Names) (t : Tree) (p : List ℕ) (names : Names) where
   pub read_as : (folder : Fault) (here : Option Node) → look t names ≡ here → MayStand (Some home) here Content → Reached t p names → file_at t p folder ≡ blob_read folder t (blob_in here)
   unfolding file_at leads followed link_end
-  read_as folder None e s (missing h w) = rw w refl
-  read_as folder (Some Folder) e s r = absurd s
-  read_as folder (Some (File bytes)) e s (missing h w) = let differ : Some (File bytes) ≡ None = sym e ∙ h in absurd cc
-  read_as folder (Some (Link target)) e s (arrives w) = rw (w, e) refl
-  read_as folder (Some (Link target)) e s (missing h w) = let differ : Some (Link target) ≡ None = sym e ∙ h in absurd cc
-  read_as folder here e s (arrives w) = rw (w, e, e) refl
+  read_as folder here e s h = grind (arith, missing, arrives)
 
   pub content_there : (here : Option Node) → look t names ≡ here → MayStand (Some home) here Content → Reached t p names → is_there (found t p) ≡ blob_there t (blob_in here)
   unfolding found leads followed link_end
-  content_there None e s (missing h w) = rw w refl
-  content_there (Some Folder) e s r = absurd s
-  content_there (Some (File bytes)) e s (missing h w) = let differ : Some (File bytes) ≡ None = sym e ∙ h in absurd cc
-  content_there (Some (Link target)) e s (arrives w) = rw (w, e) refl
-  content_there (Some (Link target)) e s (missing h w) = let differ : Some (Link target) ≡ None = sym e ∙ h in absurd cc
-  content_there here e s (arrives w) = rw (w, e, e) refl
+  content_there here e s h = grind (arith, missing, arrives)
 
   -- what is there can be removed, and nothing else
   removed : (here : Option Node) → look t names ≡ here → MayStand (Some home) here Content → Reached t p names
       → ((here ≡ None) × (apply t (steps.RemoveFile p) Plain ≡ (answers.Failed faults.NotFound, t))) ⊎ ((node : Node) × (here ≡ Some node) × (apply t (steps.RemoveFile p) Plain ≡ (answers.Done, cut t names)))
   unfolding apply removable
-  removed None e s (arrives w) = inl (refl, rw (w, e) refl)
-  removed None e s (missing h w) = inl (refl, rw w refl)
-  removed (Some Folder) e s r = absurd s
-  removed (Some (File bytes)) e s (arrives w) = inr (File bytes, refl, rw (w, e) refl)
-  removed (Some (File bytes)) e s (missing h w) = let differ : Some (File bytes) ≡ None = sym e ∙ h in absurd cc
-  removed (Some (Link target)) e s (arrives w) = inr (Link target, refl, rw (w, e) refl)
-  removed (Some (Link target)) e s (missing h w) = let differ : Some (Link target) ≡ None = sym e ∙ h in absurd cc
+  removed here e s h = grind (arith, arrives, missing)
 
 pub asks : (t : Tree) (p : List ℕ) (a : PlainAnswer) → is_there (found t p) ≡ a → apply t (steps.Exists p) Plain ≡ (a, t)
 unfolding apply
@@ -87,8 +65,7 @@ IsAsked (answers.Failed fault) = Unit {0}
 IsAsked other = ⊥
 
 pub is_asked : (r : Result Names Fault) → IsAsked (is_there r)
-is_asked (Err faults.NotFound) = tt
-is_asked r = tt
+is_asked r = grind (arith, common_steps)
 
 -- what is at a content's path is a content
 is_blob : (home : Names) (here : Option Node) → MayStand (Some home) here Content → (node : Node) → here ≡ Some node → (blob : Blob) × (blob_in here ≡ Some blob)
@@ -166,9 +143,7 @@ module _ (Q : Tree → Reply → Type 0) (home : Names) (t : Tree) (g : Ground h
           → EndsSo Q t (cond b (over (Read bytes)) (ends_with (IntegrityError (Check (h ∷ hs) (actual (h ∷ hs) bytes)))))
       by_meeting true q = ends Q t (Read bytes) q
       by_meeting false q = ends Q t (Refused (IntegrityError (Check (h ∷ hs) (actual (h ∷ hs) bytes)))) q
-  by_bytes (Err fault) e q read =
-      goes Q t t (reading (record { cache = cache; integrity = h ∷ hs })) (steps.ReadAll (content_path cache (h ∷ hs))) (answers.Failed fault) refl read
-      (ends Q t (Refused (IoError fault [])) q)
+  by_bytes (Err fault) e q read = search (rules, goes, ends)
 
   -- a read answers what lies there
   pub reads_so : Q t (read_on (Some home) t (h ∷ hs)) → EndsSo Q t (reading (record { cache = cache; integrity = h ∷ hs }))
@@ -178,10 +153,8 @@ module _ (Q : Tree → Reply → Type 0) (home : Names) (t : Tree) (g : Ground h
 
   by_there : (a : PlainAnswer) → Q t (Exists (is_yes a)) → apply t (steps.Exists (content_path cache (h ∷ hs))) Plain ≡ (a, t) → IsAsked a
       → EndsSo Q t (asking (record { cache = cache; integrity = h ∷ hs }))
-  by_there (answers.There there) q read asked =
-      goes Q t t (asking (record { cache = cache; integrity = h ∷ hs })) (steps.Exists (content_path cache (h ∷ hs))) (answers.There there) refl read (ends Q t (Exists there) q)
-  by_there (answers.Failed fault) q read asked =
-      goes Q t t (asking (record { cache = cache; integrity = h ∷ hs })) (steps.Exists (content_path cache (h ∷ hs))) (answers.Failed fault) refl read (ends Q t (Exists false) q)
+  by_there (answers.There there) q read asked = search (rules, goes, ends)
+  by_there (answers.Failed fault) q read asked = search (rules, goes, ends)
   by_there other q read asked = absurd asked
 
   -- a question answers whether something does

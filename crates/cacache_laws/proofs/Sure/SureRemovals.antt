@@ -1,6 +1,6 @@
 -- A full removal of a key in which all steps succeed.
 -- A clearing in which all steps succeed.
-use Rattle.std.proofs.{Common.{◌≡◌, ℕ, false, cond, List, [], ◌∷◌, ◌++◌, Option, None, Some, Ok, refl, sym, ap, subst, ◌∙◌, arith, ◌⊎◌, inl, inr, Bool, true, append-nil}, lemmas.List.Elements.{All-head}}
+use Rattle.std.proofs.{lemmas.{Grind.{common_steps}, List.Elements.{All-head}}, Common.{◌≡◌, ℕ, false, cond, List, [], ◌∷◌, ◌++◌, Option, None, Some, Ok, refl, sym, ap, subst, ◌∙◌, arith, ◌⊎◌, inl, inr, Bool, true, append-nil}}
 use Rattle.std.specs.Prelude.{bytes_eq}
 use Rattle.sha1.specs.Sha1.{sha1}
 use Rattle.cacache_core.specs.{declared.{errors.Error.TheVariants.{IoError, OutOfMemory}, integrity.digest.Hash.{Hash}}, Integrity.{IsHash, IsIntegrity, address}, PathNames.{Names, names_of, home_of}, Paths.{bucket_names, content_names, content_area, index_area, temp_area}}
@@ -25,8 +25,7 @@ use Rattle.cacache_store.specs.declared.store.answer.Kind.TheVariants as kinds
 
 no_bucket : (t : Tree) (p : List ℕ) (names : Names) → look t names ≡ None → Reached t p names → apply t (steps.RemoveFile p) Plain ≡ (answers.Failed faults.NotFound, t)
 unfolding apply removable
-no_bucket t p names e (arrives w) = rw (w, e) refl
-no_bucket t p names e (missing h w) = rw w refl
+no_bucket t p names e h = grind (arith, arrives, missing)
 
 file_goes : (t : Tree) (p : List ℕ) (names : Names) (bytes : List ℕ) → Rooted t → names_of p ≡ Ok names → look t names ≡ Some (File bytes) → apply t (steps.RemoveFile p) Plain ≡ (answers.Done, cut t names)
 unfolding apply removable
@@ -127,31 +126,18 @@ Ended r = (r ≡ Done) ⊎ (r ≡ Refused (IoError faults.TooDeep []))
 
 -- if folders alone are in it
 ends_cleared : (cache : List ℕ) (t : Tree) (home : Names) (r : Reply) (new : Tree) → names_of cache ≡ Ok home → look t home ≡ Some Folder → Each IsFolderName (listing t home) → Cleared r cache t new → Ended r
-ends_cleared cache t home r new is there folders (swept p named here sheds (inl all)) = inl all.1
-ends_cleared cache t home r new is there folders (swept p named here sheds (inr file)) =
-    let both : Ok home ≡ Ok p = sym is ∙ named in
-    let same : home ≡ p = cc in
-    absurd (file.1 (subst (λ q. Each IsFolderName (listing t q)) same folders))
-ends_cleared cache t home r new is there folders (kept never same unfinished) = absurd (never home is there)
+ends_cleared cache t home r new is there folders h = grind (arith, swept, kept)
 
 -- in a cache's folder are folders alone
 no_file : (home : Option Names) (bytes : List ℕ) (b c d : Bool) → MayStand home (Some (File bytes)) (cond b Way (cond c Way (cond d Way Stray))) → ⊥
-no_file home bytes false false true s = s
-no_file home bytes b c d s = s
+no_file home bytes b c d s = grind (arith, common_steps)
 
 no_link : (home : Option Names) (target : List ℕ) (b c d : Bool) → MayStand home (Some (Link target)) (cond b Way (cond c Way (cond d Way Stray))) → ⊥
-no_link home target false false true s = s
-no_link home target b c d s = s
+no_link home target b c d s = grind (arith, common_steps)
 
 module _ (home : Names) (t : Tree) (g : Ground home t) where
   folder_name : (name : List ℕ) (node : Node) → look t (home ++ name ∷ []) ≡ Some node → kind_of node ≡ kinds.Folder
-  folder_name name Folder e = refl
-  folder_name name (File bytes) e =
-      absurd (no_file (Some home) bytes (bytes_eq name content_area) (bytes_eq name index_area) (bytes_eq name temp_area)
-      (subst (λ n. MayStand (Some home) n (kind_below (name ∷ []))) e (suits (Some home) t (home ++ name ∷ []) (kind_below (name ∷ [])) (kind-below home (name ∷ [])) g.placed)))
-  folder_name name (Link target) e =
-      absurd (no_link (Some home) target (bytes_eq name content_area) (bytes_eq name index_area) (bytes_eq name temp_area)
-      (subst (λ n. MayStand (Some home) n (kind_below (name ∷ []))) e (suits (Some home) t (home ++ name ∷ []) (kind_below (name ∷ [])) (kind-below home (name ∷ [])) g.placed)))
+  folder_name name node e = grind (arith, no_file, suits, kind-below, no_link)
 
   folder_names : (ns : List Name) → Each (Told t home) ns → Each IsFolderName ns
   folder_names [] told = tt

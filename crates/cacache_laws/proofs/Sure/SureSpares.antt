@@ -1,5 +1,5 @@
 -- If no temporary file is there, no other step of a call makes one.
-use Rattle.std.{proofs.Common.{◌≡◌, ℕ, cond, List, [], ◌∷◌, Option, None, Some, sym, ap, ◌∙◌}, specs.List.{AllByRecursion}}
+use Rattle.std.{proofs.Common.{rules, ◌≡◌, ℕ, cond, List, [], ◌∷◌, Option, None, Some, sym, ap, ◌∙◌}, specs.List.{AllByRecursion}}
 use Rattle.cacache_core.specs.PathNames.{Names}
 use Rattle.cacache_store.specs.declared.store.step.Step.TheVariants as steps
 use Rattle.cacache_store.specs.Plain.{PlainStep, PlainAnswer}
@@ -15,8 +15,7 @@ use Rattle.cacache_laws.specs.Sequence.{tree_on, plain_moves}
 
 -- a node elsewhere isn't seen
 pub put_apart : (t : Tree) (p q : Names) (node : Node) → (q ≡ p → ⊥) → look t q ≡ None → look (put t p node) q ≡ None
-put_apart t p q node apart e =
-    look-put t p node q ∙ ap (λ b. cond b (Some node) (look t q)) (not_true (same_path q p) (λ s. apart (same_path-true q p s))) ∙ e
+put_apart t p q node apart e = search (rules, look-put, not_true, same_path-true)
 
 -- ---- steps
 
@@ -33,12 +32,7 @@ module _ (home : Option Names) (q : Names) (temporary : path_kind home q ≡ Tem
   put_other t k p node is differ e = put_apart t p q node (elsewhere k p is differ) e
 
   pub step_spares : (t : Tree) (step : PlainStep) → Placed home t → Proper home step → (Creates q step → ⊥) → look t q ≡ None → look (apply t step Plain).1 q ≡ None
-  step_spares t step placed proper never e =
-      elim (temp_at home t step Plain q temporary placed proper) [
-        | as_was is ↦ is ∙ e
-        | came creates none is ↦ absurd (never creates)
-        | went takes is ↦ is
-      ]
+  step_spares t step placed proper never e = search (rules, temp_at, as_was, came, went)
 
   pub dirs_spare : (t : Tree) (p : List ℕ) → Placed home t → IsFor home Way p → look t q ≡ None → look (apply t (steps.MakeDirs p) Plain).1 q ≡ None
   dirs_spare t p placed way e = step_spares t (steps.MakeDirs p) placed way (λ never. never) e

@@ -1,5 +1,6 @@
 -- A temporary file stays as long as calls don't move it and remove nothing.
-use Rattle.std.{proofs.Common.{◌≡◌, ℕ, Bool, true, false, List, [], ◌∷◌, ◌++◌, Option, None, Some, Result, Ok, Err, refl, sym, ap, subst, ◌∙◌}, specs.List.{AllByRecursion}}
+use Rattle.std.proofs.{Common.{arith, rules, ◌≡◌, ℕ, Bool, true, false, List, [], ◌∷◌, ◌++◌, Option, None, Some, Result, Ok, Err, refl, sym, ap, subst, ◌∙◌}, lemmas.Grind.{common_steps}}
+use Rattle.std.specs.List.{AllByRecursion}
 use Rattle.cacache_core.specs.{declared.errors.Fault.{Fault}, PathNames.{Names, names_of, home_of, names_below}, Paths.{temp_names}}
 use Rattle.cacache_core.specs.declared.errors.Fault.TheVariants as faults
 use Rattle.cacache_store.specs.{declared.store.log.LogItem.{LogItem}, Plain.{PlainStep, PlainAnswer}}
@@ -26,12 +27,7 @@ module _ (home : Option Names) (q : Names) (temporary : path_kind home q ≡ Tem
   Stays x = look x q ≡ Some node
 
   step_stays : (t : Tree) (step : PlainStep) → Placed home t → Proper home step → (Takes q step → ⊥) → Stays t → Stays (apply t step Plain).1
-  step_stays t step placed proper never e =
-      elim (temp_at home t step Plain q temporary placed proper) [
-        | as_was is ↦ is ∙ e
-        | came creates none is ↦ let differ : Some node ≡ None = sym e ∙ none in absurd cc
-        | went takes is ↦ absurd (never takes)
-      ]
+  step_stays t step placed proper never e = search (rules, temp_at, as_was, came, went)
 
   moves_stay : (t : Tree) (moves : Moves) → Placed home t → IsTrace home t (plain_moves moves) → NoneTakes q moves → Stays t → Stays (tree_on t moves)
   moves_stay t [] placed trace never e = e
@@ -58,10 +54,7 @@ call_keeps cache command r old new c number may named sound never file = at (hom
         (folder ++ temp_names number, file.1, file.2 ∙ ap Ok same, ap (λ t. look t (folder ++ temp_names number)) (logs_lead old new c.ran.0 c.ran.2 c.logged).1 ∙ stays)
 
 not_taken : (q : Names) (step : PlainStep) → May (allows without_takings step) → Takes q step → ⊥
-not_taken q (steps.Persist f p) may e = may
-not_taken q (steps.RemoveFile p) may e = may
-not_taken q (steps.RemoveDir p) may e = may
-not_taken q step may e = e
+not_taken q step may e = grind (arith, common_steps)
 
 none_taken : (q : Names) (moves : Moves) → AllMay without_takings moves → NoneTakes q moves
 none_taken q [] may = tt
@@ -79,10 +72,7 @@ of_put = record { prepares = true; commits = true; links = true; inserts = true;
 
 module _ (site : Site) (apart outside : List ℕ → Bool) (q : Names) (differ : names_of (temp_path site.cache site.number) ≡ Ok q → ⊥) where
   not_own : (step : PlainStep) → Allowed site apart outside step → May (allows of_put step) → Takes q step → ⊥
-  not_own (steps.Persist f p) allowed may e = differ (ap names_of (sym allowed.0) ∙ e)
-  not_own (steps.RemoveFile p) allowed may e = may
-  not_own (steps.RemoveDir p) allowed may e = may
-  not_own step allowed may e = e
+  not_own step allowed may e = grind (arith, common_steps)
 
   none_own : (s : State) (moves : Moves) (r : Reply) → Sound site apart outside s → Runs s moves r → AllMay of_put moves → NoneTakes q moves
   none_own s [] r sound run may = tt

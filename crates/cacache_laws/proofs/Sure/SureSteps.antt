@@ -1,5 +1,5 @@
 -- What a step does on a tree that lets it succeed.
-use Rattle.std.proofs.{Common.{◌≡◌, ◌<◌, ℕ, true, cond, List, [], ◌∷◌, ◌++◌, Option, None, Some, Ok, Err, length, take, refl, sym, ap, subst, ◌∙◌, arith, append_assoc}, lemmas.List.Elements.{All-head, All-tail}}
+use Rattle.std.proofs.{lemmas.{Grind.{common_steps}, List.Elements.{All-head, All-tail}}, Common.{rules, ◌≡◌, ◌<◌, ℕ, true, cond, List, [], ◌∷◌, ◌++◌, Option, None, Some, Ok, Err, length, take, refl, sym, ap, subst, ◌∙◌, arith, append_assoc}}
 use Rattle.std.specs.{Prelude.{All, IfOk}, List.{AllByRecursion}}
 use Rattle.cacache_core.specs.{declared.errors.Fault.{Fault}, PathNames.{Names, names_of, names_below, IsProperName, home_of}, Paths.{join, joined, folders_to}}
 use Rattle.cacache_core.proofs.JoinedNames.{joined_texts_name}
@@ -34,10 +34,7 @@ pub record Lies (home : Names) (p : List ℕ) (ns : Names) (k : PathKind) : Type
   pub kind : path_kind (Some home) (home ++ ns) ≡ k
 
 pub joined_lies : (cache : List ℕ) (home ns : Names) (k : PathKind) → home_of cache ≡ Some home → All IsProperName ns → 0 < length ns → kind_below ns ≡ k → Lies home (joined cache ns) ns k
-joined_lies cache home ns k is all some kind = record {
-  named = joined_texts_name cache ns all some ∙ ap (λ h. names_below h ns) is;
-  kind = kind-below home ns ∙ kind;
-}
+joined_lies cache home ns k is all some kind = search (rules, joined_texts_name, kind-below)
 
 pub is_for : (home : Names) (p : List ℕ) (ns : Names) (k : PathKind) → Lies home p ns k → IsFor (Some home) k p
 is_for home p ns k lies = subst (λ r. IfOk r (λ names. path_kind (Some home) names ≡ k)) (sym lies.named) lies.kind
@@ -61,9 +58,7 @@ pub data Reached (t : Tree) (p : List ℕ) (names : Names) : Type 0 where
 
 reached_none : (t : Tree) (p : List ℕ) (names : Names) (fault : Option Fault) → way_fault t [] names ≡ fault → OnlyMissing fault → names_of p ≡ Ok names → look t names ≡ None → Reached t p names
 unfolding place
-reached_none t p names None e h is none = arrives (rw (is, e) refl)
-reached_none t p names (Some faults.NotFound) e h is none = missing none (rw (is, e) refl)
-reached_none t p names (Some other) e h is none = absurd h
+reached_none t p names fault e h is none = grind (arith, common_steps)
 
 pub reached : (home : Names) (t : Tree) (p : List ℕ) (names : Names) → Ground home t → names_of p ≡ Ok names → is_used (path_kind (Some home) names) ≡ true → (here : Option Node) → look t names ≡ here → Reached t p names
 reached home t p names g is used None e = reached_none t p names (way_fault t [] names) refl (way_missing (Some home) t [] names used g.placed) is e
@@ -124,9 +119,7 @@ persists home t file path names s led may =
 
 writable_so : (home : Names) (t : Tree) (p : List ℕ) (names : Names) (here : Option Node) → look t names ≡ here → MayStand (Some home) here Bucket → place t p ≡ Ok names → writable t p ≡ Ok names
 unfolding writable leads followed
-writable_so home t p names (Some Folder) is s led = absurd s
-writable_so home t p names (Some (Link target)) is s led = absurd s
-writable_so home t p names here is s led = rw (led, is, is) refl
+writable_so home t p names here is s led = grind (arith, common_steps)
 
 pub appends : (home : Names) (t : Tree) (p : List ℕ) (names : Names) (line : List ℕ) → MayStand (Some home) (look t names) Bucket → place t p ≡ Ok names
     → apply t (steps.Append p line) Plain ≡ (answers.Took (length line), put t names (File (bytes_of (look t names) ++ take (length line) line)))

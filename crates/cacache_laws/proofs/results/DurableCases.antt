@@ -1,6 +1,6 @@
 -- A put alone, and what followed it elsewhere: nothing is appended to its bucket after its entry.
 -- Histories of one durable commit, on a disk that holds nothing.
-use Rattle.std.proofs.Common.{◌≡◌, inl, inr, ℕ, Bool, true, false, List, [], ◌∷◌, ◌++◌, Option, None, Some, Result, Ok, Err, refl, sym, subst, append-nil, codes, ap, ◌∙◌, arith}
+use Rattle.std.proofs.{lemmas.Grind.{common_steps}, Common.{rules, ◌≡◌, inl, inr, ℕ, Bool, true, false, List, [], ◌∷◌, ◌++◌, Option, None, Some, Result, Ok, Err, refl, sym, subst, append-nil, codes, ap, ◌∙◌, arith}}
 use Rattle.cacache_core.specs.{PathNames.{Names, names_of}, Paths.{bucket_names, content_names, temp_names}, declared.integrity.digest.Hash.{Hash}}
 use Rattle.cacache_store.specs.Plain.{PlainStep, PlainAnswer}
 use Rattle.cacache_disk.{specs.{declared.luck.Luck.TheVariants.{Plain}, Tree.{Tree, bare}}, proofs.Roots.{bare_below}}
@@ -24,49 +24,27 @@ SendsLast (other ∷ later) = SendsLast later
 
 -- so it is with a commit
 pub commits_last : (c : Commit) (effects : List Effect) (r : Reply) → Commits c effects r → SendsLast effects
-commits_last c effects r (inl h) = subst SendsLast (sym h.0) tt
-commits_last c effects r (inr h) = subst SendsLast (sym h.1) (by c.key h.2)
-  where
-    by : (key : Option (List ℕ)) → Indexes c key h.0 r → SendsLast h.0
-    by None e = subst SendsLast (sym e) tt
-    by (Some key) (inl none) = subst SendsLast (sym none.0) tt
-    by (Some key) (inr line) = subst SendsLast (sym line.1.1) refl
+commits_last c effects r h = grind (arith, common_steps)
 
 module _ (P : List Effect → Type 0) (path : List ℕ) (later : List Effect) where
   -- what holds of a step's effects holds of those after it, if it is so when the step has one
   if_was_done : (a : Result (Unit {0}) Refusal) → (P (stored path ∷ later) → P later) → P (if_done a (stored path) later) → P later
-  if_was_done (Ok done) k h = k h
-  if_was_done (Err refusal) k h = h
+  if_was_done a k h = grind (arith, common_steps)
 
   if_was_there : (a : Result Bool Refusal) → (P (stored path ∷ later) → P later) → P (if_there a (stored path) later) → P later
-  if_was_there (Ok true) k h = k h
-  if_was_there a k h = h
+  if_was_there a k h = grind (arith, common_steps)
 
 -- after a step
 last_after : (step : PlainStep) (a : PlainAnswer) (later : List Effect) → SendsLast (effect step a later) → SendsLast later
-last_after (steps.Append p line) a later h = subst SendsLast (sym h) tt
-last_after (steps.Persist file p) a later h = if_was_done SendsLast p later (done_in a) (λ k. k) h
-last_after (steps.Symlink target p) a later h = if_was_done SendsLast p later (done_in a) (λ k. k) h
-last_after (steps.Exists p) a later h = if_was_there SendsLast p later (there_in a) (λ k. k) h
-last_after step a later h = h
+last_after step a later h = grind (arith, if_was_done, if_was_there)
 
 -- if a step and those after it have no effect, those after it have none
 none_after : (step : PlainStep) (a : PlainAnswer) (later : List Effect) → effect step a later ≡ [] → later ≡ []
-none_after (steps.Persist file p) a later e = if_was_done (λ x. x ≡ []) p later (done_in a) (λ k. absurd cc) e
-none_after (steps.Symlink target p) a later e = if_was_done (λ x. x ≡ []) p later (done_in a) (λ k. absurd cc) e
-none_after (steps.Exists p) a later e = if_was_there (λ x. x ≡ []) p later (there_in a) (λ k. absurd cc) e
-none_after (steps.Append p line) a later e = absurd cc
-none_after (steps.Copy p q) a later e = absurd cc
-none_after (steps.Reflink p q) a later e = absurd cc
-none_after (steps.HardLink p q) a later e = absurd cc
-none_after (steps.RemoveFile p) a later e = absurd cc
-none_after (steps.RemoveDir p) a later e = absurd cc
-none_after step a later e = e
+none_after step a later e = grind (arith, if_was_done, if_was_there)
 
 -- and it appends nothing
 none_appended : (path : Names) (step : PlainStep) (a : PlainAnswer) (later : List Effect) → effect step a later ≡ [] → appends_at step path ≡ false
-none_appended path (steps.Append p line) a later e = absurd cc
-none_appended path step a later e = refl
+none_appended path step a later e = grind (arith, common_steps)
 
 -- ---- records
 
@@ -113,8 +91,7 @@ record Moving (s : State) (r : Reply) : Type 0 where
 
 moving : (Q : Tree → Reply → Type 0) (s : State) (r : Reply) (step : PlainStep) → wants s ≡ Some step → ((t : Tree) (x : Reply) → Q t x → x ≡ r) → Plays Q bare s → Moving s r
 moving Q s r step want says ([], x, run, answered, q) = let no : Some step ≡ None = sym want ∙ ap wants run in absurd cc
-moving Q s r step want says (m ∷ more, x, run, answered, q) =
-    record { first = m; more = more; run = subst (λ (y : Reply). Goes s (m ∷ more) (over y)) (says _ x q) run; answered = answered }
+moving Q s r step want says (m ∷ more, x, run, answered, q) = search rules
 
 abbrev setup_of : List ℕ → Setup
 setup_of cache = record { cache = cache; base = codes "/"; outside = []; callers = 1 }
@@ -165,8 +142,7 @@ no_links cache command records address target e = let none : None ≡ Some (AtLi
 -- ---- the laws
 
 puts_durably : (content : Names) (p : Put) (step : PlainStep) → p.options.durable ≡ true → PutsDurably content (commands.Put p) step
-puts_durably content p (steps.Persist f to) durable = λ named. durable
-puts_durably content p step durable = tt
+puts_durably content p step durable = grind (arith, common_steps)
 
 no_cause : (j : Insertion) → CanBeWritten j.entry → refused_cause j ≡ None
 unfolding refused_cause
@@ -208,8 +184,7 @@ module _ (cache : List ℕ) (folder : Names) (p : Put) (is : names_of cache ≡ 
   path = folder ++ content_names (address_of_put p)
 
   keyed : (key : Option (List ℕ)) → p.key ≡ key → keyed_reply (put_commit cache p) key ≡ Stored own
-  keyed None e = refl
-  keyed (Some key) e = is_done (insertion_of (put_commit cache p) key) (writable key e) ∙ rw no_integrity refl
+  keyed key e = grind (arith, is_done)
 
   -- it is stored
   is_stored : put_reply cache p ≡ Stored own

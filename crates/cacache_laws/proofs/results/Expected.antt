@@ -1,5 +1,6 @@
 -- What was expected of the bytes of a commit that stored.
-use Rattle.std.{proofs.Common.{◌≡◌, ℕ, Bool, true, false, cond, List, Option, None, Some, length, arith, refl, sym, subst}, specs.Prelude.{Contains, IfSome, is_some}}
+use Rattle.std.proofs.{lemmas.Grind.{common_steps}, Common.{rules, ◌≡◌, ℕ, Bool, true, false, cond, List, Option, None, Some, length, arith, refl, sym, subst}}
+use Rattle.std.specs.Prelude.{Contains, IfSome, is_some}
 use Rattle.cacache_core.specs.{declared.integrity.{algorithm.Algorithm.{Algorithm}, digest.Hash.{Hash}}, Digests.{digest}, Integrity.{HasDigest, hash_of, integrity_under}, Meeting.{matching}}
 use Rattle.cacache_core.proofs.Meeting.{matching_finds}
 use Rattle.cacache_store.specs.declared.store.plain.PlainTemp.{PlainTemp}
@@ -30,18 +31,10 @@ own_matches expected a bytes has =
 -- ---- a commit that stored
 
 pub suits_so : (c : Commit) (file : PlainTemp) (i : List Hash) (moves : Moves) → Runs (persist c file) moves (Stored i) → Suits c
-suits_so c file i moves run = (by c.options.durable (runs_keep (persist c file) moves (Stored i) run)).1
-  where
-    by : (b : Bool) → Promises (cond b (syncing c file) (persisting c file)) (Stored i) → Stores c (Stored i)
-    by true h = h
-    by false h = h
+suits_so c file i moves run = search (rules, runs_keep)
 
 if_some : {A : Type 0} (P : A → Type 0) (o : Option A) → ((a : A) → o ≡ Some a → P a) → IfSome o P
-if_some P None h = tt
-if_some P (Some a) h = h a refl
+if_some P o h = grind (arith, common_steps)
 
 pub as_expected : (cache : List ℕ) (key : Option (List ℕ)) (s : Said) (bytes : List ℕ) (moment : ℕ) → Suits (put_commit cache (record { key = key; «data» = bytes; moment = moment; options = options_of s })) → AreAsExpected s bytes
-as_expected cache key s bytes moment suits = record {
-  integrity = if_some (λ (expected : List Hash). HasDigest expected s.algorithm (digest s.algorithm bytes)) s.integrity (λ expected is. lists_own expected s.algorithm bytes (suits.integrity expected is));
-  size = if_some (λ (wanted : ℕ). wanted ≡ length bytes) s.size suits.size;
-}
+as_expected cache key s bytes moment suits = search (rules, if_some, lists_own)

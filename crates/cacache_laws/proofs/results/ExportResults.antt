@@ -1,5 +1,5 @@
 -- Why an export fails, and what exports gave and left.
-use Rattle.std.proofs.Common.{◌≡◌, ◌⊎◌, inl, inr, ℕ, Bool, true, false, cond, List, [], Option, None, Some, option_map, Result, Ok, Err, length, refl, sym, ap, subst, ◌∙◌}
+use Rattle.std.proofs.{Common.{arith, rules, ◌≡◌, ◌⊎◌, inl, inr, ℕ, Bool, true, false, cond, List, [], Option, None, Some, option_map, Result, Ok, Err, length, refl, sym, ap, subst, ◌∙◌}, lemmas.Grind.{common_steps}}
 use Rattle.std.specs.Prelude.{IfErr, IfOk, MatchResult}
 use Rattle.cacache_core.specs.{declared.{errors.{Error.{Error, TheVariants.{EntryNotFound, IoError, IntegrityError}}, Fault.{Fault}, IntegrityFault.{IntegrityFault, TheVariants.{Check}}}, integrity.digest.Hash.{Hash}}, Integrity.{Meets, actual}, Meeting.{meets}, PathNames.{Names}}
 use Rattle.cacache_core.proofs.Meeting.{meets_finds}
@@ -19,15 +19,12 @@ use Rattle.cacache_calls.specs.declared.command.Source.TheVariants as sources
 
 no_node : (here : Option Node) (fault : Fault) → bytes_there faults.InvalidInput here ≡ Err fault
     → (bytes_there faults.IsADirectory here ≡ Err fault) ⊎ ((bytes_there faults.IsADirectory here ≡ Err faults.IsADirectory) × (fault ≡ faults.InvalidInput))
-no_node (Some Folder) fault e = inr (refl, cc)
-no_node (Some (File bytes)) fault e = absurd cc
-no_node here fault e = inl e
+no_node here fault e = grind (arith, common_steps)
 
 no_end : (t : Tree) (end : Result Names Fault) (fault : Fault) → and_then end (λ names. bytes_there faults.InvalidInput (look t names)) ≡ Err fault
     → (and_then end (λ names. bytes_there faults.IsADirectory (look t names)) ≡ Err fault)
     ⊎ ((and_then end (λ names. bytes_there faults.IsADirectory (look t names)) ≡ Err faults.IsADirectory) × (fault ≡ faults.InvalidInput))
-no_end t (Ok names) fault e = no_node (look t names) fault e
-no_end t (Err other) fault e = inl e
+no_end t end fault e = grind (arith, no_node)
 
 no_bytes : (t : Tree) (blob : Option Blob) (fault : Fault) → blob_read faults.InvalidInput t blob ≡ Err fault
     → (blob_bytes t blob ≡ Err fault) ⊎ ((blob_bytes t blob ≡ Err faults.IsADirectory) × (fault ≡ faults.InvalidInput))
@@ -48,47 +45,34 @@ module _ (cache : List ℕ) (source : Source) (checked : Bool) (to : List ℕ) (
   module _ (i : List Hash) (leads : NamesHeld cache source i old) where
     copy_tells : (r : Result (List ℕ) Fault) (w : Result Names Fault) → blob_read faults.InvalidInput t (lies_under cache i old) ≡ r → writable t to ≡ w
         → Tells Copy (or_told r (λ bytes. or_told w (λ q. Copied (length bytes))))
-    copy_tells (Err fault) w from into = inl (i, leads, no_bytes t (lies_under cache i old) fault from)
-    copy_tells (Ok bytes) (Err fault) from into = inr into
-    copy_tells (Ok bytes) (Ok q) from into = tt
+    copy_tells r w from into = grind (arith, no_bytes)
 
     reflink_tells : (w : Result Names Fault) (r : Result (List ℕ) Fault) → free t to ≡ w → bytes_under cache i old ≡ r → Tells Reflink (or_told w (λ q. or_told r (λ bytes. Done)))
-    reflink_tells (Err fault) r into from = inr into
-    reflink_tells (Ok q) (Err fault) into from = inl (i, leads, inl from)
-    reflink_tells (Ok q) (Ok bytes) into from = tt
+    reflink_tells w r into from = grind (arith, common_steps)
 
     hard_link_tells : (w : Result Names Fault) (blob : Option Blob) → free t to ≡ w → lies_under cache i old ≡ blob → Tells HardLink (or_told w (λ q. or_told (blob_named blob) (λ named. Done)))
-    hard_link_tells (Err fault) blob into from = inr into
-    hard_link_tells (Ok q) None into from = inl (i, leads, inl (ap (blob_bytes t) from))
-    hard_link_tells (Ok q) (Some blob) into from = tt
+    hard_link_tells w blob into from = grind (arith, common_steps)
 
     made_tells : (how : How) → Tells how (made_reply how to t (lies_under cache i old))
-    made_tells Copy = copy_tells (blob_read faults.InvalidInput t (lies_under cache i old)) (writable t to) refl refl
-    made_tells Reflink = reflink_tells (free t to) (bytes_under cache i old) refl refl
-    made_tells HardLink = hard_link_tells (free t to) (lies_under cache i old) refl refl
+    made_tells how = grind (arith, copy_tells, reflink_tells, hard_link_tells)
 
     by_meeting : (how : How) (bytes : List ℕ) → checked ≡ true → bytes_under cache i old ≡ Ok bytes → (b : Bool) → meets i bytes ≡ b
         → Tells how (cond b (made_reply how to t (lies_under cache i old)) (Refused (IntegrityError (Check i (actual i bytes)))))
-    by_meeting how bytes first from true met = made_tells how
-    by_meeting how bytes first from false unmet =
-        inl (first, (i, leads, (bytes, from, λ meets_it. (let no : true ≡ false = sym ((meets_finds i bytes).1 meets_it) ∙ unmet in absurd cc), refl)))
+    by_meeting how bytes first from b met = grind (arith, made_tells, meets_finds)
 
     by_bytes : (how : How) (r : Result (List ℕ) Fault) → checked ≡ true → bytes_under cache i old ≡ r → Tells how (or_told r (verified_reply i (made_reply how to t (lies_under cache i old))))
-    by_bytes how (Err fault) first from = inl (i, leads, inl from)
-    by_bytes how (Ok bytes) first from = by_meeting how bytes first from (meets i bytes) refl
+    by_bytes how r first from = grind (arith, by_meeting)
 
     by_check : (how : How) (b : Bool) → checked ≡ b
         → Tells how (cond b (or_told (bytes_under cache i old) (verified_reply i (made_reply how to t (lies_under cache i old)))) (made_reply how to t (lies_under cache i old)))
-    by_check how true first = by_bytes how (bytes_under cache i old) first refl
-    by_check how false first = made_tells how
+    by_check how b first = grind (arith, by_bytes, made_tells)
 
   exported_tells : (how : How) (i : List Hash) → NamesHeld cache source i old → Tells how (exported_reply i (record { how = how; checked = checked; to = to }) t (lies_under cache i old))
   exported_tells how i leads = by_check i leads how checked refl
 
   -- what a reply says without its message, its error says
   plain_tells : (how : How) (e : Error) → Tells how (Refused (without_message e)) → TellsSource cache source checked e old ⊎ TellsPath how to e old
-  plain_tells how (EntryNotFound c key) h = h
-  plain_tells how e h = h
+  plain_tells how e h = grind (arith, common_steps)
 
 export_tells : (cache : List ℕ) (source : Source) (how : How) (checked : Bool) (to : List ℕ) (old : List LogItem)
     → Tells cache source checked to old how (export_reply cache source (record { how = how; checked = checked; to = to }) old)
@@ -108,10 +92,7 @@ Answered cache source how checked to r old new =
 
 pub fails_so : {X : Type 0} (answer : X → Reply) (r : Result X Error) (cache : List ℕ) (source : Source) (how : How) (checked : Bool) (to : List ℕ) (old new : List LogItem)
     → Answered cache source how checked to (reply_of answer r) old new → IfErr r (λ e. FailsExport cache source how checked to e old new)
-fails_so answer (Ok x) cache source how checked to old new h = tt
-fails_so answer (Err e) cache source how checked to old new (inl m) = inl (of_refused e m)
-fails_so answer (Err e) cache source how checked to old new (inr h) =
-    inr (h.1, plain_tells cache source checked to old how e (subst (Tells cache source checked to old how) (sym h.0) (export_tells cache source how checked to old)))
+fails_so answer r cache source how checked to old new h = grind (arith, of_refused, plain_tells, export_tells)
 
 module _ {X : Type 0} (answer : X → Reply) (gives : (x : X) → IsGiven (answer x)) (r : Result X Error) (cache : List ℕ) (source : Source) (how : How) (checked : Bool) (to : List ℕ) (old new : List LogItem)
     (h : Answered cache source how checked to (reply_of answer r) old new) where
@@ -126,39 +107,29 @@ by_key cache source key e old is lacks = ap (λ s. export_reply cache s e old) i
 
 unmet_so : (made : Reply) (i : List Hash) (bytes : List ℕ) → (Meets i bytes → ⊥) → (b : Bool) → meets i bytes ≡ b
     → cond b made (Refused (IntegrityError (Check i (actual i bytes)))) ≡ Refused (IntegrityError (Check i (actual i bytes)))
-unmet_so made i bytes unmet true is = absurd (unmet ((meets_finds i bytes).0 is))
-unmet_so made i bytes unmet false is = refl
+unmet_so made i bytes unmet b is = grind (arith, meets_finds)
 
 damaged_so : (cache to : List ℕ) (how : How) (checked : Bool) (i : List Hash) (fault : IntegrityFault) (old : List LogItem) → checked ≡ true → IsDamaged cache i fault old
     → exported_reply i (record { how = how; checked = checked; to = to }) (tree_of old) (lies_under cache i old) ≡ Refused (IntegrityError fault)
-damaged_so cache to how false i fault old first d = absurd cc
-damaged_so cache to how true i fault old first d =
-    let made = made_reply how to (tree_of old) (lies_under cache i old) in
-    ap (λ b. or_told b (verified_reply i made)) d.1 ∙ unmet_so made i d.0 d.2 (meets i d.0) refl ∙ ap (λ f. Refused (IntegrityError f)) (sym d.3)
+damaged_so cache to how checked i fault old first d = grind (arith, unmet_so)
 
 -- nothing lies there
 missing_so : (to : List ℕ) (checked : Bool) (i : List Hash) (t : Tree) → exported_reply i (record { how = Copy; checked = checked; to = to }) t None ≡ Refused (IoError faults.NotFound [])
-missing_so to true i t = refl
-missing_so to false i t = refl
+missing_so to checked i t = grind (arith, common_steps)
 
 -- or nothing can be made at the path
 abbrev IsMissingOr : How → List ℕ → Tree → Reply → Type 0
 IsMissingOr how to t r = (r ≡ Refused (IoError faults.NotFound [])) ⊎ ((fault : Fault) × (r ≡ Refused (IoError fault [])) × (made_at how t to ≡ Err fault))
 
 by_path : (how : How) (to : List ℕ) (t : Tree) (w : Result Names Fault) → made_at how t to ≡ w → IsMissingOr how to t (or_told w (λ q. Refused (IoError faults.NotFound [])))
-by_path how to t (Ok q) is = inl refl
-by_path how to t (Err fault) is = inr (fault, refl, is)
+by_path how to t w is = grind (arith, common_steps)
 
 missing_or : (to : List ℕ) (how : How) (checked : Bool) (i : List Hash) (t : Tree) → IsMissingOr how to t (exported_reply i (record { how = how; checked = checked; to = to }) t None)
-missing_or to how true i t = inl refl
-missing_or to Copy false i t = inl refl
-missing_or to Reflink false i t = by_path Reflink to t (free t to) refl
-missing_or to HardLink false i t = by_path HardLink to t (free t to) refl
+missing_or to how checked i t = grind (arith, by_path)
 
 -- an error with this fault gives it
 path_told : (how : How) (to : List ℕ) (e : Error) (fault : Fault) (old : List LogItem) → without_message e ≡ IoError fault [] → made_at how (tree_of old) to ≡ Err fault → TellsPath how to e old
-path_told how to (IoError other message) fault old same is = let one : fault ≡ other = cc in is ∙ ap Err one
-path_told how to e fault old same is = absurd cc
+path_told how to e fault old same is = grind (arith, common_steps)
 
 module _ {X : Type 0} (answer : X → Reply) (gives : (x : X) → IsGiven (answer x)) (r : Result X Error) (cache : List ℕ) (source : Source) (how : How) (checked : Bool) (to : List ℕ) (old new : List LogItem)
     (h : Answered cache source how checked to (reply_of answer r) old new) where
@@ -177,15 +148,7 @@ module _ {X : Type 0} (answer : X → Reply) (gives : (x : X) → IsGiven (answe
   missing_reply i leads none = by_held cache source i asked old leads ∙ ap (exported_reply i asked (tree_of old)) none
 
   pub missing_fails : (i : List Hash) → NamesHeld cache source i old → lies_under cache i old ≡ None → FailsAs (λ e. (without_message e ≡ IoError faults.NotFound []) ⊎ TellsPath how to e old) r
-  missing_fails i leads none =
-      elim (missing_or to how checked i (tree_of old)) [
-        | inl is ↦
-            fails_too (IoError faults.NotFound []) (λ e. (without_message e ≡ IoError faults.NotFound []) ⊎ TellsPath how to e old) (λ e same. inl same) r
-            (so_fails answer gives r cache source how checked to old new h (IoError faults.NotFound []) (missing_reply i leads none ∙ is))
-        | inr f ↦
-            fails_too (IoError f.0 []) (λ e. (without_message e ≡ IoError faults.NotFound []) ⊎ TellsPath how to e old) (λ e same. inr (path_told how to e f.0 old same f.2)) r
-            (so_fails answer gives r cache source how checked to old new h (IoError f.0 []) (missing_reply i leads none ∙ f.1))
-      ]
+  missing_fails i leads none = search (rules, missing_or, fails_too, so_fails, missing_reply, path_told)
 
 -- a copy asks first what lies there
 pub copy_missing : {X : Type 0} (answer : X → Reply) → ((x : X) → IsGiven (answer x)) → (r : Result X Error) (cache : List ℕ) (source : Source) (checked : Bool) (to : List ℕ) (old new : List LogItem)
@@ -205,27 +168,20 @@ leaves cache source how checked to r old new apart named sound c =
 
 copied : (r : Result ℕ Error) (bytes to : List ℕ) (old new : List LogItem) → Arrives bytes to (reply_of Copied r) old new
     → MatchResult r (λ n. (shown (tree_of new) to ≡ Some bytes) × (n ≡ length bytes)) (λ e. IsExcused e old new)
-copied (Ok n) bytes to old new h = h
-copied (Err e) bytes to old new h = excused_error e old new h
+copied r bytes to old new h = grind (arith, excused_error)
 
 -- what arrived of any content
 whole : (cache : List ℕ) (source : Source) (checked : Bool) (to : List ℕ) (r : Result ℕ Error) (old new : List LogItem) → NamesSource source → IsCache cache old
     → Called cache (export_by Copy source checked to) (reply_of Copied r) old new → IfOk r (λ n. HasArrived cache source checked to n old new)
-whole cache source checked to (Ok n) old new named sound c = has_arrived cache to source checked n old new named sound c
-whole cache source checked to (Err e) old new named sound c = tt
+whole cache source checked to r old new named sound c = grind (arith, has_arrived)
 
 -- a source leads to one integrity
 one_held : (cache : List ℕ) (source : Source) (i j : List Hash) (log : List LogItem) → NamesHeld cache source i log → NamesHeld cache source j log → j ≡ i
-one_held cache (sources.Hash held) i j log one other = sym other ∙ one
-one_held cache (sources.Key key) i j log one other = let both : Some j ≡ Some i = sym other ∙ one in cc
+one_held cache source i j log one other = grind (arith, common_steps)
 
 linked : (cache : List ℕ) (source : Source) (checked : Bool) (to target held : List ℕ) (i : List Hash) (r : Result ℕ Error) (old new : List LogItem) → NamesHeld cache source i old → LinksToFile cache i target held old
     → IfOk r (λ n. HasArrived cache source checked to n old new) → IfOk r (λ n. (shown (tree_of new) to ≡ Some held) × (n ≡ length held))
-linked cache source checked to target held i (Err e) old new names at h = tt
-linked cache source checked to target held i (Ok n) old new names at h =
-    let lies : bytes_under cache i old ≡ Ok h.bytes = ap (λ j. bytes_under cache j old) (sym (one_held cache source i h.integrity old names h.names)) ∙ h.lies in
-    let same = links_show cache target h.bytes held i old at.lies at.shows lies in
-    (h.shows ∙ ap Some same, h.counts ∙ ap (λ (b : List ℕ). length b) same)
+linked cache source checked to target held i r old new names at h = grind (arith, one_held, links_show)
 
 pub copy_means : {C N : Type 0} (cache : List ℕ) (source : Source) (checked : Bool) (to : List ℕ) (r : Result ℕ Error) (new : Env (List LogItem) C N) → IsLog new.store → CopyMeans cache source checked to r new
 copy_means cache source checked to r new logged old apart named sound ran =
@@ -247,18 +203,15 @@ copy_means cache source checked to r new logged old apart named sound ran =
 
 shared : (r : Result (Unit {0}) Error) (bytes to : List ℕ) (old new : List LogItem) → Arrives bytes to (reply_of done r) old new
     → MatchResult r (λ u. shown (tree_of new) to ≡ Some bytes) (λ e. IsExcused e old new)
-shared (Ok u) bytes to old new h = h
-shared (Err e) bytes to old new h = excused_error e old new h
+shared r bytes to old new h = grind (arith, excused_error)
 
 -- ---- where an export may go
 
 pub may_take : (how : How) (to : List ℕ) (log : List LogItem) → MayTake HardLink to log → MayTake how to log
-may_take Copy to log may = (may.0, free_writable (tree_of log) to may.0 may.1)
-may_take how to log may = may
+may_take how to log may = grind (arith, free_writable)
 
 pub is_given : (how : How) (bytes : List ℕ) → IsGiven (exported how bytes)
-is_given Copy bytes = tt
-is_given how bytes = tt
+is_given how bytes = grind (arith, common_steps)
 
 pub sharing_means : {C N : Type 0} (cache : List ℕ) (source : Source) (how : How) (checked : Bool) (to : List ℕ) (r : Result (Unit {0}) Error) (new : Env (List LogItem) C N) → IsLog new.store
     → SharingMeans cache source how checked to r new

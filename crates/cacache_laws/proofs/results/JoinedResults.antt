@@ -1,5 +1,5 @@
 -- What calls left after one another.
-use Rattle.std.proofs.Common.{inl, inr, [], ◌∷◌, ◌++◌, ◌∙◌}
+use Rattle.std.proofs.Common.{rules, inl, inr, [], ◌∷◌, ◌++◌, ◌∙◌}
 use Rattle.cacache_core.specs.declared.errors.Fault.{Fault}
 use Rattle.cacache_calls.specs.{Causes.{Faulted}, Runs.{Moves}}
 use Rattle.cacache_laws.{proofs.Calls.Logs.{growths_join, joined}, specs.results.Joins.{ExcusesStay, KnownStays, LeavingsJoin, OthersStay, UntouchedJoin}}
@@ -17,26 +17,13 @@ leavings_join cache old mid new a b = (
 )
 
 pub untouched_join : UntouchedJoin
-untouched_join cache written own added old mid new a b = record {
-  finds = λ other differ. b.finds other differ ∙ a.finds other differ;
-  content = λ i bytes apart has. b.content i bytes apart (a.content i bytes apart has);
-  key = λ other bytes i differ apart has. b.key other bytes i differ apart (a.key other bytes i differ apart has);
-}
+untouched_join cache written own added old mid new a b = search rules
 
 pub others_stay : OthersStay
-others_stay cache except old mid new a b = record {
-  finds = λ other differ. b.1.finds other ∙ a.finds other differ;
-  lies = λ i. b.1.lies i ∙ a.lies i;
-  key = λ other bytes i differ has. b.1.key other bytes i (a.key other bytes i differ has);
-  content = λ i bytes has. b.1.content i bytes (a.content i bytes has);
-}
+others_stay cache except old mid new a b = search rules
 
 pub known_stays : KnownStays
-known_stays cache written own added old new h = record {
-  finds = λ other differ. h.1.finds other;
-  content = λ i bytes apart has. h.1.content i bytes has;
-  key = λ other bytes i differ apart has. h.1.key other bytes i has;
-}
+known_stays cache written own added old new h = search rules
 
 faulted_first : (xs ys : Moves) (fault : Fault) → Faulted xs fault → Faulted (xs ++ ys) fault
 faulted_first [] ys fault h = absurd h

@@ -1,5 +1,6 @@
 -- What comes of a question that is asked of one cache, and of another one if the first lacks this.
-use Rattle.std.{proofs.Common.{◌≡◌, inl, inr, ℕ, Bool, true, false, List, Option, None, Some, Vec, Global, Result, Ok, Err, refl, sym, subst}, specs.Prelude.{MatchBool}}
+use Rattle.std.proofs.{Common.{arith, rules, ◌≡◌, inl, inr, ℕ, Bool, true, false, List, Option, None, Some, Vec, Global, Result, Ok, Err, refl, sym, subst}, lemmas.Grind.{common_steps}}
+use Rattle.std.specs.Prelude.{MatchBool}
 use Rattle.cacache_core.specs.{declared.{errors.{Error.{TheVariants.{EntryNotFound, IoError}, Error}, Fault.TheVariants.{NotFound}}, integrity.digest.Hash.{Hash}}, Integrity.{IsIntegrity}, PathNames.{home_of}}
 use Rattle.cacache_store.specs.declared.{env.Env.{Env}, store.log.LogItem.{LogItem}}
 use Rattle.cacache_disk.specs.memory.Replay.{IsLog, tree_of}
@@ -17,35 +18,21 @@ module _ {C N R : Type 0} (asked : List ℕ → Env (List LogItem) C N → Env (
     (lack : (cache : List ℕ) (r : R) (old new : List LogItem) → lacks r ≡ true → Gives cache r old new → Lacks cache old) where
   layered : (l : Layered) (r : R) (old new : Env (List LogItem) C N) → IsLog new.store → IsCache l.upper.now old.store → IsCache l.lower.now old.store → AsksLayers l asked lacks old new r
       → GivesLayered lacks Gives Lacks l r old.store new.store
-  layered l r old new logged upper lower (mid, first, one, rest) = by (lacks first) refl rest
-    where
-      by : (b : Bool) → lacks first ≡ b → MatchBool b (asked l.lower.now mid new r) ((new ≡ mid) × (r ≡ first)) → GivesLayered lacks Gives Lacks l r old.store new.store
-      by true is two =
-          let g = gives l.upper.now first old mid (front mid.store new.store (grows l.lower.now r mid new two) logged) upper one in
-          let stays = same l.upper.now first old.store mid.store g in
-          inr (lack l.upper.now first old.store mid.store is g, (mid.store, grows l.upper.now first old mid one, stays, gives l.lower.now r mid new logged (subst (IsSound (home_of l.lower.now)) (sym stays) lower) two))
-      by false is rest =
-          subst (λ (n : Env (List LogItem) C N). GivesLayered lacks Gives Lacks l r old.store n.store) (sym rest.0)
-          (subst (λ x. GivesLayered lacks Gives Lacks l x old.store mid.store) (sym rest.1)
-          (inl (is, gives l.upper.now first old mid (subst (λ (n : Env (List LogItem) C N). IsLog n.store) rest.0 logged) upper one)))
+  layered l r old new logged upper lower (mid, first, one, rest) = search (rules, front)
 
 -- ---- what an answer lacks
 
 no_entry : (cache key : List ℕ) (r : Result (Vec ℕ Global) Error) (old new : List LogItem) → lacks_entry r ≡ true → KeyRead cache key r old new → LacksKey cache key old
-no_entry cache key (Err (EntryNotFound c k)) old new is g = g.any.2
-no_entry cache key r old new is g = absurd cc
+no_entry cache key r old new is g = grind (arith, common_steps)
 
 no_content : (cache : List ℕ) (i : List Hash) (r : Result (Vec ℕ Global) Error) (old new : List LogItem) → lacks_content r ≡ true → ContentRead cache i r old new → LacksContent i cache old
-no_content cache i (Err (IoError NotFound message)) old new is g = λ bytes folder has. let no = g.succeeds bytes folder has in cc
-no_content cache i r old new is g = absurd cc
+no_content cache i r old new is g = grind (arith, common_steps)
 
 nothing : (cache key : List ℕ) (r : Result (Option Metadata) Error) (old new : List LogItem) → finds_none r ≡ true → EntryFound cache key r old new → LacksKey cache key old
-nothing cache key (Ok None) old new is g = sym g.finds
-nothing cache key r old new is g = absurd cc
+nothing cache key r old new is g = grind (arith, common_steps)
 
 denied : (cache : List ℕ) (i : List Hash) (r : Result Bool Error) (old new : List LogItem) → says_no r ≡ true → AskedContent cache i r old new → LacksContent i cache old
-denied cache i (Ok false) old new is g = λ bytes folder has. let no = g.held bytes folder has in cc
-denied cache i r old new is g = absurd cc
+denied cache i r old new is g = grind (arith, common_steps)
 
 -- ---- the laws
 

@@ -1,5 +1,5 @@
 -- What losses leave of durable puts that found a link, in a legal history.
-use Rattle.std.proofs.Common.{◌≡◌, ◌⊎◌, inl, inr, ℕ, List, [], ◌∷◌, ◌++◌, Some, Ok, refl, sym, ap, subst, ◌∙◌, append-nil}
+use Rattle.std.proofs.Common.{rules, ◌≡◌, ◌⊎◌, inl, inr, ℕ, List, [], ◌∷◌, ◌++◌, Some, Ok, refl, sym, ap, subst, ◌∙◌, append-nil}
 use Rattle.cacache_core.specs.{declared.errors.Fault.TheVariants.{IsADirectory}, PathNames.{Names}}
 use Rattle.cacache_disk.specs.{declared.node.Node.TheVariants.{File}, Apply.{apply}, LedTo.{file_at, followed, leads, place, standing}, Rooted.{Rooted}, Tree.{Tree, look}}
 use Rattle.cacache_disk.proofs.Standing.{way_clear}
@@ -90,10 +90,4 @@ module _ (h : History) (legal : IsLegal h) where
       gives folder p loss left home_is put left_of unchanged (puts_or_links_outlast h legal few folder p loss left home_is put left_of).0
 
 pub histories_keep_links : HistoriesKeepLinks
-histories_keep_links h legal = record {
-  puts = puts_or_links_outlast h legal;
-  behind = entries_have_behind h legal;
-  files = unchanged_files_stay h legal;
-  unchanged = links_lead_unchanged h legal;
-  gives = puts_or_links_give h legal;
-}
+histories_keep_links h legal = search (rules, puts_or_links_outlast, entries_have_behind, unchanged_files_stay, links_lead_unchanged, gives, puts_or_links_give)

@@ -1,5 +1,5 @@
 -- What open linkers did.
-use Rattle.std.proofs.{Common.{◌≡◌, inl, inr, ◌<◌, ◌^◌, ◌+◌, false, ℕ, List, [], ◌∷◌, ◌++◌, Option, None, Some, Result, Ok, Err, length, map, take, refl, sym, ap, subst, ◌∙◌, append_assoc, arith}, lemmas.List.{append_cancel_left, length-append}}
+use Rattle.std.proofs.{Common.{rules, ◌≡◌, inl, inr, ◌<◌, ◌^◌, ◌+◌, false, ℕ, List, [], ◌∷◌, ◌++◌, Option, None, Some, Result, Ok, Err, length, map, take, refl, sym, ap, subst, ◌∙◌, append_assoc, arith}, lemmas.List.{append_cancel_left, length-append}}
 use Rattle.std.specs.{Prelude.{IsUtf8}, Io.{ReadsAtMost, KnownBytes.{Consumes, Keeps, ReadConsumes}}}
 use Rattle.serde_json.specs.Data.{Data, null}
 use Rattle.cacache_store.specs.Failures as io
@@ -59,47 +59,15 @@ module _ (cache : List ℕ) (key : Option (List ℕ)) (base target : List ℕ) (
   is_linking : (w : MemLinker) (size : Option ℕ) (held : List ℕ) → shown (tree_of old) target_path ≡ Some held → w.file ≡ opened held → TargetOpened cache target_path held w.file → SuitsSize size (length held)
       → w.linked ≡ linked_to base cache key target time (record (options_of s) { size = size }) → HasHashed w [] → w.file.left < 2 ^ 64
       → (held : List ℕ) × (shown (tree_of old) target_path ≡ Some held) × IsLinking cache key target_path s held [] w
-  is_linking w size held shows file was suits linked_is empty small = (
-    held,
-    shows,
-    record {
-      base = base;
-      target = target;
-      path_is = refl;
-      time = time;
-      time_is = timed;
-      size = size;
-      suits = suits;
-      small = subst (λ (f : PlainFile). f.left < 2 ^ 64) file small;
-      linked_is = linked_is;
-      first = w.file;
-      was_opened = was;
-      rest = held;
-      all = refl;
-      file_is = file;
-      hashed = empty;
-    },
-  )
+  is_linking w size held shows file was suits linked_is empty small = search rules
 
   -- none was, as this says
   fails_so : (e : Error) → LeavesKnownCache cache old new → IsExcused e old new → OpensAs (target_bytes target_path old) (Err e) → OpenedLinker cache key target_path s (Err e) old new
-  fails_so e left excused told = record {
-    leaves = left;
-    linker = tt;
-    fails = excused;
-    succeeds = λ held shows. subst (λ content. OpensAs content (Err e)) (shown_read (tree_of old) target_path held shows) told;
-    unread = λ fault is. subst (λ content. OpensAs content (Err e)) is told;
-  }
+  fails_so e left excused told = search (rules, shown_read)
 
   opens_so : (w : MemLinker) → LeavesKnownCache cache old new → (held : List ℕ) × (shown (tree_of old) target_path ≡ Some held) × IsLinking cache key target_path s held [] w → OpensAs (target_bytes target_path old) (Ok w.file)
       → OpenedLinker cache key target_path s (Ok w) old new
-  opens_so w left linker told = record {
-    leaves = left;
-    linker = linker;
-    fails = tt;
-    succeeds = λ held shows. tt;
-    unread = λ fault is. subst (λ content. OpensAs content (Ok w.file)) is told;
-  }
+  opens_so w left linker told = search rules
 
   opened_plain : (r : Result MemLinker Error) → s.size ≡ None → OpensTarget (λ file. file) linked r (Some old) (Some new) → OpensLinker (λ file. file) time (asks_file linked) r (Some old) (Some new)
       → OpenedLinker cache key target_path s r old new
@@ -126,12 +94,10 @@ module _ (cache : List ℕ) (key : Option (List ℕ)) (base target : List ℕ) (
       (sized_openings_answer target_path (Ok (opens.0, w.file)) old new (opens.1, opens.2, opens.3.1) logged)
 
 pub link_openings_mean : {C N : Type 0} (new : Env (List LogItem) C N) → IsLog new.store → LinkOpeningsMean new
-link_openings_mean new logged cache None target s r old sound none opens begins = opened_plain cache None old.base target s (Some 0) (λ k is. absurd cc) old.store new.store sound logged r none opens.0 begins
-link_openings_mean new logged cache (Some key) target s r old sound none opens begins = opened_plain cache (Some key) old.base target s s.time (λ k is. refl) old.store new.store sound logged r none opens.0 begins
+link_openings_mean new logged cache h target s r old sound none opens begins = grind (arith, opened_plain)
 
 pub sized_openings_mean : {C N : Type 0} (new : Env (List LogItem) C N) → IsLog new.store → SizedOpeningsMean new
-sized_openings_mean new logged cache None target s r old sound opens begins = opened_sized cache None old.base target s (Some 0) (λ k is. absurd cc) old.store new.store sound logged r opens.0 begins
-sized_openings_mean new logged cache (Some key) target s r old sound opens begins = opened_sized cache (Some key) old.base target s s.time (λ k is. refl) old.store new.store sound logged r opens.0 begins
+sized_openings_mean new logged cache h target s r old sound opens begins = grind (arith, opened_sized)
 
 -- ---- reads
 
@@ -153,8 +119,7 @@ gave rest more (Some left) f is h left_is =
     record { left = left; all = sym h; file_is = plain_file f left (omega (arith, left_is, sum)) (sym is) }
 
 stayed : (rest : List ℕ) (known : Option (List ℕ)) (f : PlainFile) → known ≡ f.bytes → Keeps (Some rest) known → f.left ≡ length rest → GoesOn rest [] f
-stayed rest None f is h left_is = absurd h
-stayed rest (Some left) f is h left_is = record { left = left; all = h; file_is = plain_file f left (left_is ∙ ap (λ (l : List ℕ). length l) (sym h)) (sym is) }
+stayed rest known f is h left_is = grind (arith, plain_file)
 
 goes_on : (rest : List ℕ) (f g : PlainFile) (r : Result ℕ io.Error) (buf : List ℕ) → f ≡ opened rest → ReadsAtMost r buf → ReadConsumes f.bytes g.bytes r buf → LeftFalls f.left g.left r → GoesOn rest (passed r buf) g
 goes_on rest f g (Ok n) buf is most reads falls =
@@ -219,8 +184,7 @@ module _ (cache : List ℕ) (key : Option (List ℕ)) (base target : List ℕ) (
         fails = λ plain none. tt;
         succeeds = succeeds;
       }
-  linked_bytes (Err e) h sound grows fails succeeds =
-      record { sound = sound; grows = grows; stored = tt; leads = tt; lies = tt; beside = h.beside; fails = fails e refl; succeeds = succeeds }
+  linked_bytes (Err e) h sound grows fails succeeds = search rules
 
 fits_link : (cache : List ℕ) (key : Option (List ℕ)) (base target : List ℕ) (s : Said) (size : Option ℕ) (moment : ℕ) → SaysFit s → IsText key → FitsLink cache (link_of cache key base target s size moment [] [] [])
 fits_link cache key base target s size moment says text =

@@ -1,5 +1,5 @@
 -- If no call exports or removes, steps leave what lies apart from the cache.
-use Rattle.std.proofs.Common.{◌≡◌, ◌==◌, ℕ, Bool, true, false, cond, List, [], ◌∷◌, Option, None, Some, option_map, refl, sym, ap, subst, ◌-◌, ◌++◌, Result, Ok, length, ◌∙◌, append_assoc}
+use Rattle.std.proofs.{Common.{arith, rules, ◌≡◌, ◌==◌, ℕ, Bool, true, false, cond, List, [], ◌∷◌, Option, None, Some, option_map, refl, sym, ap, subst, ◌-◌, ◌++◌, Result, Ok, length, ◌∙◌, append_assoc}, lemmas.Grind.{common_steps}}
 use Rattle.cacache_core.specs.{PathNames.{Names, names_of}, declared.{errors.Fault.{Fault, TheVariants.{IsADirectory}}, integrity.digest.Hash.{Hash}}, Paths.{content_names}}
 use Rattle.cacache_store.specs.Plain.{PlainStep, PlainAnswer}
 use Rattle.cacache_disk.specs.{declared.{luck.Luck.{Luck}, node.Node.{TheVariants.{Link, Folder, File}, Node}}, Tree.{Tree, look, bare, put, same_path}, LedTo.{free, bytes_there, dirs_fault, file_at, followed, leads, on_link, or_fault, place, where_no_folder}, Apply.{apply, above_last, if_missing, make_some, planted}}
@@ -72,18 +72,14 @@ LinksIn None = Unit {0}
 LinksIn (Some call) = KeepsTo linking_in call.command
 
 set_links : (b : Bool) (new old : Option Call) → LinksIn new → LinksIn old → LinksIn (cond b new old)
-set_links true new old n o = n
-set_links false new old n o = o
+set_links b new old n o = grind (arith, common_steps)
 
 after_links : (w : Now) (luck : Luck) (made : Option Made) (reply : Option Reply) (call : Option Call) → LinksIn call → LinksIn (unless_over reply (option_map (call_after w.tree luck made) call))
-after_links w luck None None (Some call) h = h
-after_links w luck (Some made) None (Some call) h = h
-after_links w luck made _ call h = tt
+after_links w luck made reply call h = grind (arith, common_steps)
 
 module _ (s : Setup) where
   writes_temp : (n : ℕ) (step : PlainStep) → Allowed (call_site s n) (may_export s) (is_outside s) step → WritesTemp (home s) step
-  writes_temp n (steps.Write f bytes) a = temp_for s n f.path a
-  writes_temp n step a = tt
+  writes_temp n step a = grind (arith, temp_for)
 
   call_may : (call : Call) (step : PlainStep) → CallHolds s call → KeepsTo linking_in call.command → wants call.state ≡ Some step → May (allows linking_in step)
   call_may call step holds keeps w =
@@ -129,15 +125,10 @@ abbrev NoneLinks : Tree → Type 0
 NoneLinks t = (q : Names) → IsLink (look t q) → ⊥
 
 put_none : (t : Tree) (p : Names) (node : Node) → (IsLink (Some node) → ⊥) → NoneLinks t → NoneLinks (put t p node)
-put_none t p node not none q is = by (same_path q p) (subst IsLink (look-put t p node q) is)
-  where
-    by : (b : Bool) → IsLink (cond b (Some node) (look t q)) → ⊥
-    by true i = not i
-    by false i = none q i
+put_none t p node not none q is = search (rules, look-put)
 
 made_one : (t : Tree) (p : Names) (here : Option Node) (b : Bool) → NoneLinks t → NoneLinks (if_missing here (cond b t (put t p Folder)) t)
-made_one t p None false none = put_none t p Folder (λ i. i) none
-made_one t p here b none = none
+made_one t p here b none = grind (arith, put_none)
 
 made_none : (t : Tree) (above rest : Names) (count : ℕ) → NoneLinks t → NoneLinks (make_some t above rest count)
 made_none t above [] count none = none
@@ -161,17 +152,12 @@ files_none t new (file ∷ files) e none =
     files_none f.0 new files f.2 (planted_none t file.0 file.1 f.0 f.1 none)
 
 bare_none : NoneLinks bare
-bare_none q is = by (same_path q []) (subst IsLink (look-bare q) is)
-  where
-    by : (b : Bool) → IsLink (cond b (Some Folder) None) → ⊥
-    by true i = i
-    by false i = i
+bare_none q is = search (rules, look-bare)
 
 -- ---- the file that a path leads to if no link is there
 
 stays_here : (here : Option Node) (q end : Names) (go : List ℕ → Result Names Fault) → (IsLink here → ⊥) → on_link here q go ≡ Ok end → q ≡ end
-stays_here (Some (Link target)) q end go none e = absurd (none tt)
-stays_here here q end go none e = cc
+stays_here here q end go none e = grind (arith, common_steps)
 
 followed_none : (t : Tree) (q end : Names) → (IsLink (look t q) → ⊥) → followed 16 t q ≡ Ok end → q ≡ end
 unfolding followed
@@ -196,10 +182,7 @@ file_named t path bytes e =
 -- ---- steps that leave a path
 
 step_look : (q : Names) (w : Moment) (step : PlainStep) (luck : Luck) (answer : PlainAnswer) → LeavesStep q w step (apply w.tree step luck).1 answer → look (apply w.tree step luck).1 q ≡ look w.tree q
-step_look q w (steps.SyncTemp f) luck answer leaves = ap (λ t. look t q) (sync_tree w.tree (steps.SyncTemp f) luck refl)
-step_look q w (steps.SyncFile p) luck answer leaves = ap (λ t. look t q) (sync_tree w.tree (steps.SyncFile p) luck refl)
-step_look q w (steps.SyncDir p) luck answer leaves = ap (λ t. look t q) (sync_tree w.tree (steps.SyncDir p) luck refl)
-step_look q w step luck answer leaves = leaves.0
+step_look q w step luck answer leaves = grind (arith, sync_tree)
 
 look_stays : (q : Names) (w : Moment) (more later : List Record) → EachMove (Leaves q) w (steps_of (more ++ later)) → look (after w (steps_of more)).tree q ≡ look w.tree q
 look_stays q w [] later leaves = refl
@@ -212,14 +195,11 @@ look_stays q w (Stopped caller ∷ more) later leaves = look_stays q w more late
 -- ---- links of contents
 
 link_node : (here : Option Node) (target : List ℕ) → blob_in here ≡ Some (AtLink target) → here ≡ Some (Link target)
-link_node (Some (Link other)) target e = let same : other ≡ target = cc in ap (λ t. Some (Link t)) same
-link_node here target e = absurd cc
+link_node here target e = grind (arith, common_steps)
 
 link_elsewhere : (home : Option Names) (t : Tree) (a : Hash) (target : List ℕ) → Placed home t → (value_of_tree home t).contents a ≡ Some (AtLink target) → IsFor home Elsewhere target
 link_elsewhere None t a target placed e = absurd cc
-link_elsewhere (Some folder) t a target placed e =
-    subst (λ here. MayStand (Some folder) here Content) (link_node (look t (folder ++ content_names a)) target e)
-    (suits (Some folder) t (folder ++ content_names a) Content (kind-below folder (content_names a)) placed)
+link_elsewhere (Some folder) t a target placed e = search (rules, link_node, suits, kind-below)
 
 pub links_lead_unchanged : (h : History) → IsLegal h → LinksLeadUnchanged h
 links_lead_unchanged h legal only before later is p target was =

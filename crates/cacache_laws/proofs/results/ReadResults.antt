@@ -1,6 +1,6 @@
 -- What reads and questions gave and left.
 -- What a listing gave and left.
-use Rattle.std.proofs.{Common.{◌≡◌, inl, inr, ℕ, Bool, true, false, List, [], Option, None, Some, Vec, Global, Result, Ok, Err, refl, sym, ap, subst, ◌∙◌, ◌∷◌, map}, lemmas.List.Elements.{All-nil, All-cons, All-head, All-tail}}
+use Rattle.std.proofs.{Common.{arith, rules, ◌≡◌, inl, inr, ℕ, Bool, true, false, List, [], Option, None, Some, Vec, Global, Result, Ok, Err, refl, sym, ap, subst, ◌∙◌, ◌∷◌, map}, lemmas.{Grind.{common_steps}, List.Elements.{All-nil, All-cons, All-head, All-tail}}}
 use Rattle.std.specs.Prelude.{IfOk, IfErr, option_map, All}
 use Rattle.cacache_core.specs.{declared.{errors.Error.{Error}, integrity.digest.Hash.{Hash}}, Integrity.{IsIntegrity}, PathNames.{home_of}}
 use Rattle.cacache_store.specs.declared.{env.Env.{Env}, store.log.LogItem.{LogItem}}
@@ -18,17 +18,13 @@ use Rattle.cacache_calls.specs.declared.reply.Reply.TheVariants as replies
 -- ---- reads
 
 pub given : (r : Result (Vec ℕ Global) Error) (Stays : Type 0) (bytes : List ℕ) (old new : List LogItem) → GivesBytes Stays bytes (reply_of bytes_read r) old new → GivesJust bytes r old new
-given (Ok v) Stays bytes old new h = h.0
-given (Err e) Stays bytes old new h = excused_error e old new h
+given r Stays bytes old new h = grind (arith, excused_error)
 
 none_given : (r : Result (Vec ℕ Global) Error) (cache key : List ℕ) (old new : List LogItem) → FindsNone cache key (reply_of bytes_read r) old new → GivesNoEntry cache key r old new
-none_given (Ok v) cache key old new h = h
-none_given (Err e) cache key old new (inl is) = inl (missing_error e cache key is)
-none_given (Err e) cache key old new (inr h) = inr (excused_error e old new h)
+none_given r cache key old new h = grind (arith, missing_error, excused_error)
 
 whole_of : (r : Result (Vec ℕ Global) Error) (cache key : List ℕ) (old new : List LogItem) → GivesOfKey cache key (reply_of bytes_read r) old new → IfOk r (λ v. KeyLiesWhole cache key old v.items)
-whole_of (Ok v) cache key old new h = h
-whole_of (Err e) cache key old new h = tt
+whole_of r cache key old new h = grind (arith, common_steps)
 
 -- if a link lies there, whole bytes are those that its target shows
 linked_whole : (cache target held bytes : List ℕ) (i : List Hash) (log : List LogItem) → LinksToFile cache i target held log → LiesWhole cache i log bytes → bytes ≡ held
@@ -55,16 +51,12 @@ pub lies_whole : (cache : List ℕ) (i : List Hash) (bytes : List ℕ) (log : Li
 lies_whole cache i bytes log has = (ap (blob_bytes (tree_of log)) has.content, has.meets)
 
 key_gives : (cache key : List ℕ) (i : List Hash) (bytes : List ℕ) (log : List LogItem) → HasKey cache key i bytes log → get_on (setup_at cache []) (tree_of log) key (found_under cache key log) ≡ replies.Read bytes
-key_gives cache key i bytes log has =
-    ap (get_on (setup_at cache []) (tree_of log) key) has.finds
-    ∙ ap (read_on (home_of cache) (tree_of log)) has.integrity
-    ∙ whole_gives cache i bytes log (lies_whole cache i bytes log has.content)
+key_gives cache key i bytes log has = search (rules, whole_gives, lies_whole)
 
 -- and so does a read by key
 led_gives : (cache key : List ℕ) (i : List Hash) (bytes : List ℕ) (log : List LogItem) (o : Option Found) → option_map (λ (f : Found). f.integrity) o ≡ Some i → LiesWhole cache i log bytes
     → get_on (setup_at cache []) (tree_of log) key o ≡ replies.Read bytes
-led_gives cache key i bytes log None leads lies = absurd cc
-led_gives cache key i bytes log (Some f) leads lies = let same : f.integrity ≡ i = cc in ap (read_on (home_of cache) (tree_of log)) same ∙ whole_gives cache i bytes log lies
+led_gives cache key i bytes log o leads lies = grind (arith, whole_gives)
 
 pub key_read_means : {C N : Type 0} (cache key : List ℕ) (r : Result (Vec ℕ Global) Error) (new : Env (List LogItem) C N) → IsLog new.store → KeyReadMeans cache key r new
 key_read_means cache key r new logged old sound ran =
@@ -88,8 +80,7 @@ key_read_means cache key r new logged old sound ran =
     }
 
 held_whole : (r : Result (Vec ℕ Global) Error) (cache : List ℕ) (i : List Hash) (old new : List LogItem) → GivesHeld cache i (reply_of bytes_read r) old new → IfOk r (λ v. LiesWhole cache i old v.items)
-held_whole (Ok v) cache i old new h = h
-held_whole (Err e) cache i old new h = tt
+held_whole r cache i old new h = grind (arith, common_steps)
 
 pub content_read_means : {C N : Type 0} (cache : List ℕ) (i : List Hash) (r : Result (Vec ℕ Global) Error) (new : Env (List LogItem) C N) → IsIntegrity i → IsLog new.store → ContentReadMeans cache i r new
 content_read_means cache i r new formed logged old sound ran =
@@ -114,8 +105,7 @@ content_read_means cache i r new formed logged old sound ran =
 
 found : (r : Result (Option Metadata) Error) (there : Option Found) (old new : List LogItem) → GivesFound there (reply_of looked_up r) old new
     → IfOk r (λ found. option_map found_view found ≡ there) × IfErr r (λ e. IsExcused e old new)
-found (Ok f) there old new h = (h, tt)
-found (Err e) there old new h = (tt, excused_error e old new h)
+found r there old new h = grind (arith, excused_error)
 
 pub lookup_means : {C N : Type 0} (cache key : List ℕ) (r : Result (Option Metadata) Error) (new : Env (List LogItem) C N) → IsLog new.store → LookupMeans cache key r new
 lookup_means cache key r new logged old sound ran =
@@ -132,22 +122,15 @@ lookup_means cache key r new logged old sound ran =
 
 said : (r : Result Bool Error) (Stays : Type 0) (old new : List LogItem) → SaysThere Stays (reply_of replies.Exists r) old new
     → IfOk r (λ there. there ≡ false → AStepFailed old new)
-said (Ok true) Stays old new h = λ no. absurd cc
-said (Ok false) Stays old new h = λ no. h
-said (Err e) Stays old new h = tt
+said r Stays old new h = grind (arith, common_steps)
 
 -- a yes about bytes that lie there
 held_yes : (r : Result Bool Error) (cache : List ℕ) (i : List Hash) (bytes : List ℕ) (log : List LogItem) → HasContent cache i bytes log → OrMemory (reply_of replies.Exists r ≡ exists_reply cache i log) (reply_of replies.Exists r)
     → IfOk r (λ there. there ≡ true)
-held_yes (Ok there) cache i bytes log has (inl m) = absurd cc
-held_yes (Ok there) cache i bytes log has (inr is) =
-    let yes : replies.Exists there ≡ replies.Exists true = is ∙ ap (λ b. replies.Exists (is_yes (blob_there (tree_of log) b))) has.content in cc
-held_yes (Err e) cache i bytes log has h = tt
+held_yes r cache i bytes log has h = grind (arith, common_steps)
 
 denied : (r : Result Bool Error) → SaysAbsent (reply_of replies.Exists r) → IfOk r (λ there. there ≡ false)
-denied (Ok true) h = absurd h
-denied (Ok false) h = refl
-denied (Err e) h = tt
+denied r h = grind (arith, common_steps)
 
 pub question_means : {C N : Type 0} (cache : List ℕ) (i : List Hash) (r : Result Bool Error) (new : Env (List LogItem) C N) → IsIntegrity i → IsLog new.store → QuestionMeans cache i r new
 question_means cache i r new formed logged old sound ran =
@@ -165,8 +148,7 @@ question_means cache i r new formed logged old sound ran =
 -- ---- replies without messages
 
 item_plain : (item : Item) → plain_item (plain_item item) ≡ plain_item item
-item_plain (Ok f) = refl
-item_plain (Err e) = ap (λ x. Err x) (plain_error e)
+item_plain item = grind (arith, plain_error)
 
 items_plain : (items : List Item) → map plain_item (map plain_item items) ≡ map plain_item items
 items_plain [] = refl

@@ -1,5 +1,6 @@
 -- What removals and clearings gave and left.
-use Rattle.std.{proofs.Common.{◌≡◌, inl, inr, ℕ, List, [], Option, None, Some, Result, Ok, Err, refl, ap, ◌∙◌, arith}, specs.Prelude.{OnOk, IfErr, IsUtf8}}
+use Rattle.std.proofs.{lemmas.Grind.{common_steps}, Common.{rules, ◌≡◌, inl, inr, ℕ, List, [], Option, None, Some, Result, Ok, Err, refl, ap, ◌∙◌, arith}}
+use Rattle.std.specs.Prelude.{OnOk, IfErr, IsUtf8}
 use Rattle.cacache_core.specs.{declared.{errors.{Error.{Error, TheVariants.{IoError, OutOfMemory}}, Fault.TheVariants.{NotFound, TooDeep}}, integrity.digest.Hash.{Hash}}, Integrity.{IsIntegrity}, PathNames.{home_of}}
 use Rattle.cacache_disk.specs.{declared.node.Node.{Node}, memory.Replay.{IsLog, tree_of}}
 use Rattle.cacache_value.specs.{Kinds.{node_below}, Value.{Blob}}
@@ -12,19 +13,14 @@ use Rattle.cacache_laws.proofs.{Putting.{Puts.{removals_keep}, Forms.{bare_writt
 use Rattle.cacache_history.specs.Values.{IsThere}
 
 gone : (r : Result (Unit {0}) Error) (cache key : List ℕ) (old new : List LogItem) → RemovesKey cache key (reply_of done r) old new → OnOk r (LacksKey cache key new) × IfErr r (λ e. IsExcused e old new)
-gone (Ok u) cache key old new h = (h, tt)
-gone (Err e) cache key old new h = (tt, excused_error e old new h)
+gone r cache key old new h = grind (arith, excused_error)
 
 removed_if : (blob : Option Blob) → IsThere blob → removal_reply blob ≡ Done
-removed_if None there = absurd there
-removed_if (Some blob) there = refl
+removed_if blob there = grind (arith, common_steps)
 
 -- what a key leads to lies there
 fully_done : (cache key : List ℕ) (i : List Hash) (bytes : List ℕ) (log : List LogItem) → HasKey cache key i bytes log → fully_reply (home_of cache) (tree_of log) key (found_under cache key log) ≡ Done
-fully_done cache key i bytes log has =
-    ap (fully_reply (home_of cache) (tree_of log) key) has.finds
-    ∙ ap (λ j. removal_reply (lies_under cache j log)) has.integrity
-    ∙ ap removal_reply has.content.content
+fully_done cache key i bytes log has = search rules
 
 pub removal_means : {C N : Type 0} (moments : C → Option (List ℕ)) (cache key : List ℕ) (r : Result (Unit {0}) Error) (new : Env (List LogItem) C N) → IsUtf8 key → IsLog new.store → RemovalMeans moments cache key r new
 unfolding refused_cause
@@ -48,8 +44,7 @@ removal_means moments cache key r new utf8 logged old sound ran =
 
 content_gone : (r : Result (Unit {0}) Error) (cache : List ℕ) (i : List Hash) (old new : List LogItem) → RemovesContent cache i (reply_of done r) old new
     → OnOk r (lies_under cache i new ≡ None) × IfErr r (λ e. IsExcused e old new)
-content_gone (Ok u) cache i old new h = (h, tt)
-content_gone (Err e) cache i old new h = (tt, excused_error e old new h)
+content_gone r cache i old new h = grind (arith, excused_error)
 
 pub content_removal_means : {C N : Type 0} (cache : List ℕ) (i : List Hash) (r : Result (Unit {0}) Error) (new : Env (List LogItem) C N) → IsIntegrity i → IsLog new.store → ContentRemovalMeans cache i r new
 content_removal_means cache i r new formed logged old sound ran =
@@ -84,19 +79,14 @@ full_removal_means cache key r new logged old sound ran =
     }
 
 empty_after : (r : Result (Unit {0}) Error) (cache : List ℕ) (old new : List LogItem) → Empties cache (reply_of done r) old new → OnOk r (IsEmptyCache cache new)
-empty_after (Ok u) cache old new h = h
-empty_after (Err e) cache old new h = tt
+empty_after r cache old new h = grind (arith, common_steps)
 
 -- why a clearing may fail
 clearing_by : (cache : List ℕ) (old : List LogItem) (e : Error) (here : Option Node) → node_below (home_of cache) (tree_of old) [] ≡ here → Clears here (Refused (without_message e)) → FailsClearing cache old e
-clearing_by cache old e None is h = let same : without_message e ≡ IoError NotFound [] = cc in inr (inr (is, same))
-clearing_by cache old e (Some node) is (inl h) = absurd cc
-clearing_by cache old e (Some node) is (inr h) = let same : without_message e ≡ IoError TooDeep [] = cc in inr (inl same)
+clearing_by cache old e here is h = grind (arith, common_steps)
 
 clearing_fails : (cache : List ℕ) (r : Result (Unit {0}) Error) (old : List LogItem) → OrMemory (Clears (node_below (home_of cache) (tree_of old) []) (reply_of done r)) (reply_of done r) → IfErr r (λ e. FailsClearing cache old e)
-clearing_fails cache (Ok u) old h = tt
-clearing_fails cache (Err e) old (inl m) = let same : without_message e ≡ OutOfMemory = cc in inl (memory_error e same)
-clearing_fails cache (Err e) old (inr h) = clearing_by cache old e (node_below (home_of cache) (tree_of old) []) refl h
+clearing_fails cache r old h = grind (arith, memory_error, clearing_by)
 
 pub clearing_means : {C N : Type 0} (cache : List ℕ) (r : Result (Unit {0}) Error) (new : Env (List LogItem) C N) → IsLog new.store → ClearingMeans cache r new
 clearing_means cache r new logged old sound ran =

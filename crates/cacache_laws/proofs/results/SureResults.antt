@@ -1,7 +1,7 @@
 -- Results of calls whose steps all go well.
 -- Results of links whose steps all succeed.
 -- The moves of one call whose steps all succeed, as records of a history.
-use Rattle.std.proofs.{Common.{◌≡◌, ◌⊎◌, inl, inr, ℕ, List, Result, Ok, Err, sym, subst, ◌∙◌, true, cond, [], Option, None, Some, refl, ap, ◌∷◌, ◌++◌, option_map}, lemmas.Bool.{eq-eqb}}
+use Rattle.std.proofs.{Common.{arith, rules, ◌≡◌, ◌⊎◌, inl, inr, ℕ, List, Result, Ok, Err, sym, subst, ◌∙◌, true, cond, [], Option, None, Some, refl, ap, ◌∷◌, ◌++◌, option_map}, lemmas.{Grind.{common_steps}, Bool.{eq-eqb}}}
 use Rattle.std.specs.Prelude.{IfOk, IfErr, IfSome}
 use Rattle.cacache_core.specs.{declared.{errors.{Error.{Error, TheVariants.{EntryNotFound, OutOfMemory, IoError, SizeMismatch}}, Fault.{Fault}}, integrity.digest.Hash.{Hash}}, PathNames.{Names}}
 use Rattle.cacache_store.specs.declared.store.log.LogItem.{LogItem}
@@ -25,56 +25,37 @@ of_refused e h = let same : without_message e ≡ OutOfMemory = cc in memory_err
 
 -- a call that is to answer such a reply, if memory isn't refused, fails for memory
 pub for_memory : {X : Type 0} (answer : X → Reply) (r : Result X Error) (wanted : Reply) → IsGiven wanted → OrMemory (reply_of answer r ≡ wanted) (reply_of answer r) → FailsForMemory r
-for_memory answer (Ok x) wanted given h = tt
-for_memory answer (Err e) wanted given (inl m) = of_refused e m
-for_memory answer (Err e) wanted given (inr is) = absurd (subst IsGiven (sym is) given)
+for_memory answer r wanted given h = grind (arith, of_refused)
 
 -- an answer that isn't a refusal for memory
 pub so_ready : {X : Type 0} (answer : X → Reply) → ((x : X) → IsGiven (answer x)) → (cache : List ℕ) (r : Result X Error) (old new : List LogItem)
     → (IsReady cache old → OrMemory (IsTidy cache new) (reply_of answer r)) → IsReady cache old → IfOk r (λ x. IsReady cache new)
-so_ready answer gives cache (Ok x) old new tidy ready = elim (tidy ready) [
-  | inl m ↦ absurd (subst IsGiven m (gives x))
-  | inr t ↦ record { folder = ready.folder; tidy = t }
-]
-so_ready answer gives cache (Err e) old new tidy ready = tt
+so_ready answer gives cache r old new tidy ready = grind (arith, common_steps)
 
 -- a reply that is to be another one, which is this one
 pub or_as : {wanted same : Reply} (r : Reply) → wanted ≡ same → OrMemory (r ≡ wanted) r → OrMemory (r ≡ same) r
-or_as r e (inl m) = inl m
-or_as r e (inr h) = inr (h ∙ e)
+or_as r e h = grind (arith, common_steps)
 
 -- a call that is to find no entry, if memory isn't refused
 pub for_missing : {X : Type 0} (answer : X → Reply) (r : Result X Error) (cache key : List ℕ) → OrMemory (reply_of answer r ≡ replies.Refused (EntryNotFound cache key)) (reply_of answer r)
     → IfErr r (λ e. (e ≡ EntryNotFound cache key) ⊎ (e ≡ OutOfMemory))
-for_missing answer (Ok x) cache key h = tt
-for_missing answer (Err e) cache key (inl m) = inr (of_refused e m)
-for_missing answer (Err e) cache key (inr is) = let same : without_message e ≡ EntryNotFound cache key = cc in inl (missing_error e cache key same)
+for_missing answer r cache key h = grind (arith, of_refused, missing_error)
 
 -- a call that answers this error, if memory isn't refused, fails for nothing else
 pub fails_for : {X : Type 0} (answer : X → Reply) → ((x : X) → IsGiven (answer x)) → (r : Result X Error) (wanted : Error) → OrMemory (reply_of answer r ≡ replies.Refused wanted) (reply_of answer r) → FailsFor wanted r
-fails_for answer gives (Ok x) wanted (inl m) = absurd (subst IsGiven m (gives x))
-fails_for answer gives (Ok x) wanted (inr is) = absurd (subst IsGiven is (gives x))
-fails_for answer gives (Err e) wanted (inl m) = inl (of_refused e m)
-fails_for answer gives (Err e) wanted (inr is) = inr (cc)
+fails_for answer gives r wanted h = grind (arith, of_refused)
 
 -- an error that is answered is one of these
 pub fails_too : {X : Type 0} (wanted : Error) (IsSo : Error → Type 0) → ((e : Error) → without_message e ≡ wanted → IsSo e) → (r : Result X Error) → FailsFor wanted r → FailsAs IsSo r
-fails_too wanted IsSo leads (Ok x) h = h
-fails_too wanted IsSo leads (Err e) (inl m) = inl m
-fails_too wanted IsSo leads (Err e) (inr same) = inr (leads e same)
+fails_too wanted IsSo leads r h = grind (arith, common_steps)
 
 -- what a path shows is read there
 pub shown_read : (t : Tree) (path held : List ℕ) → shown t path ≡ Some held → file_at t path faults.IsADirectory ≡ Ok held
 unfolding apply
-shown_read t path held = by (file_at t path faults.IsADirectory)
-  where
-    by : (r : Result (List ℕ) Fault) → bytes_told (unless r t (λ bytes. (answers.Bytes bytes, t))).0 ≡ Some held → r ≡ Ok held
-    by (Ok bytes) e = let same : bytes ≡ held = cc in ap Ok same
-    by (Err fault) e = absurd cc
+shown_read t path held = search rules
 
 leads_so : (stored : Reply) (t : Tree) (blob : Option Blob) → IfSome blob (λ (b : Blob). is_yes (blob_there t (Some b)) ≡ true) → unless_dangling stored t blob ≡ stored
-leads_so stored t None leads = refl
-leads_so stored t (Some b) leads = ap (λ yes. cond yes stored (Refused (IoError faults.AlreadyExists []))) leads
+leads_so stored t blob leads = grind (arith, common_steps)
 
 -- the entry that a commit adds can be written, if it has a key
 abbrev pub IsWritten : Commit → Type 0
@@ -82,24 +63,16 @@ IsWritten c = (key : List ℕ) → c.key ≡ Some key → refused_cause (inserti
 
 -- no size is expected, or that of the bytes
 sized_so : (c : Commit) (size : Option ℕ) → (size ≡ None) ⊎ (size ≡ Some c.count) → sized_reply c size ≡ keyed_reply c c.key
-sized_so c None suits = refl
-sized_so c (Some n) (inl none) = absurd cc
-sized_so c (Some n) (inr some) =
-    let same : n ≡ c.count = cc in
-    ap (λ yes. cond yes (keyed_reply c c.key) (Refused (SizeMismatch n c.count))) (eq-eqb n c.count same)
+sized_so c size suits = grind (arith, common_steps)
 
 module _ (c : Commit) (r : Result (List Hash) Error) (old : List LogItem) (written : IsWritten c) (plain : c.options.integrity ≡ None) (suits : (c.options.size ≡ None) ⊎ (c.options.size ≡ Some c.count))
     (leads : LeadsOn c.cache c.computed old) where
   -- so it answers by its key alone
   replies_so : linked_reply c old ≡ keyed_reply c c.key
-  replies_so =
-      leads_so (compared_reply c c.options.integrity) (tree_of old) (lies_under c.cache c.computed old) leads
-      ∙ ap (compared_reply c) plain ∙ sized_so c c.options.size suits
+  replies_so = search (rules, leads_so, sized_so)
 
   by_key : (key : Option (List ℕ)) → c.key ≡ key → OrMemory (reply_of Stored r ≡ keyed_reply c key) (reply_of Stored r) → FailsForMemory r
-  by_key None is h = for_memory Stored r (Stored c.computed) tt h
-  by_key (Some key) is h =
-      for_memory Stored r (Stored (given_or c.computed c.options.integrity)) tt (or_as (reply_of Stored r) (ap (unless_unwritable (insertion_of c key).reply) (written key is)) h)
+  by_key key is h = grind (arith, for_memory, or_as)
 
   pub commit_succeeds : OrMemory (reply_of Stored r ≡ linked_reply c old) (reply_of Stored r) → FailsForMemory r
   commit_succeeds h = by_key c.key refl (or_as (reply_of Stored r) replies_so h)

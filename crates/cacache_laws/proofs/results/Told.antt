@@ -1,5 +1,5 @@
 -- What laws say of replies, as results say it.
-use Rattle.std.proofs.Common.{◌≡◌, ℕ, List, [], Some, Result, Ok, Err, append-nil, map, sym, ap, ◌∙◌}
+use Rattle.std.proofs.Common.{arith, rules, ◌≡◌, ℕ, List, [], Some, Result, Ok, Err, append-nil, map, sym, ap, ◌∙◌}
 use Rattle.cacache_core.specs.declared.errors.Error.{Error}
 use Rattle.cacache_store.specs.declared.{env.Env.{Env}, store.log.LogItem.{LogItem, TheVariants.{Made}}}
 use Rattle.cacache_disk.specs.memory.Replay.{IsLog}
@@ -9,8 +9,7 @@ use Rattle.cacache_laws.specs.{Caches.{Called, Grows, IsCache}, Looks.{OnlyLooks
 use Rattle.cacache_laws.proofs.{Calls.{Logs.{calls_grow, some_same}, CallErrors.{plain_error}}, Readings.{GivenReads.{same_stays_known}, Looks.{looks_keep}, OpenReaders.{log_front}}}
 
 pub plain_result : {X : Type 0} (answer : X → Reply) → ((x : X) → plain_reply (answer x) ≡ answer x) → (r : Result X Error) → plain_reply (reply_of answer r) ≡ reply_of answer r
-plain_result answer plain (Ok x) = plain x
-plain_result answer plain (Err e) = ap Refused (plain_error e)
+plain_result answer plain r = grind (arith, plain_error)
 
 -- the clause `ran` of a call, and that the log is a disk's, make it one that laws speak of
 abbrev pub called : {X : Type 0} (answer : X → Reply) → ((x : X) → plain_reply (answer x) ≡ answer x)
@@ -21,8 +20,7 @@ called answer plain r cache base number command old new ran logged =
 
 -- a call that only looks leaves what was known
 pub looks_leave : (cache : List ℕ) (command : Command) (r : Reply) (old new : List LogItem) → OnlyLooks command → Called cache command r old new → IsCache cache new → LeavesKnownCache cache old new
-looks_leave cache command r old new looks c sound =
-    (sound, same_stays_known cache old new (looks_keep cache command r old new looks c), calls_grow cache command r old new c)
+looks_leave cache command r old new looks c sound = search (rules, same_stays_known, looks_keep, calls_grow)
 
 -- ---- how a log grows by calls
 

@@ -1,5 +1,5 @@
 -- A file that no step changes stays through each loss, if all was fixed at first.
-use Rattle.std.proofs.Common.{◌≡◌, inr, ℕ, Bool, true, false, cond, List, [], ◌∷◌, ◌++◌, Option, None, Some, refl, sym, ap, subst, ◌∙◌, append_assoc, append-nil}
+use Rattle.std.proofs.Common.{rules, ◌≡◌, inr, ℕ, Bool, true, false, cond, List, [], ◌∷◌, ◌++◌, Option, None, Some, refl, sym, ap, subst, ◌∙◌, append_assoc, append-nil}
 use Rattle.std.specs.Prelude.{unwrap_or}
 use Rattle.cacache_core.specs.PathNames.{Names, names_of}
 use Rattle.cacache_store.specs.{declared.store.step.Step.TheVariants.{Persist, SyncTemp, SyncFile, SyncDir}, Plain.{PlainStep, PlainAnswer}}
@@ -51,19 +51,12 @@ module _ (home : Option Names) (path : Names) (bytes : List ℕ) where
         let same : p ≡ path = sym (append-nil p) ∙ e in
         name_kept fixed t new step answer p (Some (File bytes)) (ap (look t) same ∙ now.0) (ap (look new) same ∙ there) (ap (moved_to (moves_file step answer)) same ∙ unmoved)
         ∙ now.2 p [] e
-    named_on new rooted_new step answer is there unmoved p (name ∷ rest) e =
-        name_kept fixed t new step answer p (Some Folder) (folder_at t rooted now.0 p rest name e) (folder_at new rooted_new there p rest name e)
-        (not_moved step answer p is (folder_at t rooted now.0 p rest name e))
-        ∙ now.2 p (name ∷ rest) e
+    named_on new rooted_new step answer is there unmoved p (name ∷ rest) e = search (rules, name_kept, folder_at, not_moved)
 
     stands_on : (step : PlainStep) (luck : Luck) (answer : PlainAnswer) → Proper home step → LeavesStep path (record { tree = t; fixed = fixed }) step (apply t step luck).1 answer
         → Stands (apply t step luck).1 (fixed_after fixed t (apply t step luck).1 step answer)
-    stands_on (SyncTemp f) luck answer is leaves =
-        by_sync (SyncTemp f) luck (is_synced answer) (temp_synced fixed f) refl
-        (sync_stands (is_synced answer) (temp_synced fixed f) (cond_whole (is_at (names_of f.path) path) (unwrap_or f.bytes []) (fixed.files path)) now.2)
-    stands_on (SyncFile p) luck answer is leaves =
-        by_sync (SyncFile p) luck (is_synced answer) (file_synced fixed t p) refl
-        (sync_stands (is_synced answer) (file_synced fixed t p) (cond_whole (is_at (leads t p) path) (bytes_of (look t path)) (fixed.files path)) now.2)
+    stands_on (SyncTemp f) luck answer is leaves = search (rules, by_sync, sync_stands, cond_whole)
+    stands_on (SyncFile p) luck answer is leaves = search (rules, by_sync, sync_stands, cond_whole)
     stands_on (SyncDir p) luck answer is leaves =
         by_sync (SyncDir p) luck (is_synced answer) (folder_synced fixed p) refl
         (sync_stands (is_synced answer) (folder_synced fixed p) (λ whole. whole) (λ q rest e. cond_none (is_child_of (names_of p) q) (fixed.names q) (now.2 q rest e)))
@@ -99,9 +92,7 @@ module _ (home : Option Names) (path : Names) (bytes : List ℕ) where
     firm p rest e = left_firm home w.tree w.fixed loss p (inr (h.1.2 p rest e))
 
     left_folder : (p rest : Names) (name : List ℕ) → p ++ name ∷ rest ≡ path → is_folder (left p).node ≡ true
-    left_folder p rest name e =
-        ap (λ (place : Place). is_folder place.node) (firm p (name ∷ rest) e)
-        ∙ ap is_folder (upper_folder w.tree p rest name (File bytes) h.0.1 (ap (look w.tree) e ∙ h.1.0))
+    left_folder p rest name e = search (rules, firm, upper_folder)
 
     led : (p rest : Names) → p ++ rest ≡ path → lead_folders left p rest ≡ true
     led p [] e = refl

@@ -1,6 +1,6 @@
 -- What writes and insertions gave and left.
 -- What links gave and left.
-use Rattle.std.proofs.Common.{◌≡◌, ◌⊎◌, inl, inr, ◌<◌, ◌^◌, ℕ, List, Option, None, Some, option_map, Result, Ok, Err, length, refl, sym, ap, subst, ◌∙◌, arith, []}
+use Rattle.std.proofs.{lemmas.Grind.{common_steps}, Common.{rules, ◌≡◌, ◌⊎◌, inl, inr, ◌<◌, ◌^◌, ℕ, List, Option, None, Some, option_map, Result, Ok, Err, length, refl, sym, ap, subst, ◌∙◌, arith, []}}
 use Rattle.std.specs.Prelude.{IfOk, IfErr, IsUtf8}
 use Rattle.serde_json.specs.Data.{Data, null}
 use Rattle.cacache_core.specs.{declared.{errors.Error.{Error, TheVariants.{IoError, SerdeError}}, integrity.{algorithm.Algorithm.{Algorithm, TheVariants.{Sha256}}, digest.Hash.{Hash}}}, Integrity.{integrity_under}, Texts.{integrity_text}}
@@ -22,32 +22,17 @@ use Rattle.cacache_calls.specs.declared.command.Command.TheVariants as commands
 -- if added bytes lie at the address of others, they are the same
 pub untouched : (cache : List ℕ) (written : Option (List ℕ)) (own : List Hash) (added : List ℕ) (old new : List LogItem) → KeepsBeside cache written own added old new
     → KeepsUntouched cache written own added old new
-untouched cache written own added old new k = record {
-  finds = k.finds;
-  content = λ i bytes apart has. elim (k.content i bytes has) [
-    | inl stays ↦ stays
-    | inr at ↦ subst (λ b. HasContent cache i b new) (sym (apart at.0)) at.1
-  ];
-  key = λ other bytes i differ apart has. elim (k.key other bytes i differ has) [
-    | inl stays ↦ stays
-    | inr at ↦ subst (λ b. HasKey cache other i b new) (sym (apart at.0)) at.1
-  ];
-}
+untouched cache written own added old new k = search rules
 
 -- ---- writes
 
 wrote_so : (r : Result (List Hash) Error) (cache key bytes : List ℕ) (own : List Hash) (old new : List LogItem) → IfOk r (λ i. i ≡ own) → WritesKey cache key bytes (reply_of Stored r) old new
     → IfOk r (λ i. (i ≡ own) × HasKey cache key i bytes new) × IfErr r (λ e. IsExcused e old new)
-wrote_so (Ok i) cache key bytes own old new is h = ((is, h), tt)
-wrote_so (Err e) cache key bytes own old new is h = (tt, excused_error e old new h)
+wrote_so r cache key bytes own old new is h = grind (arith, excused_error)
 
 pub leads_so : (cache key : List ℕ) (a : Algorithm) (bytes : List ℕ) (moment : ℕ) (old new : List LogItem) → MayLeadToPut cache (plain_put a key bytes moment) old new
     → (found_under cache key new ≡ found_under cache key old) ⊎ (leads_to cache key new ≡ Some (integrity_under a bytes))
-leads_so cache key a bytes moment old new may =
-    elim (may key refl) [
-      | inl same ↦ inl same
-      | inr led ↦ inr (ap (option_map (λ (f : Found). f.integrity)) led)
-    ]
+leads_so cache key a bytes moment old new may = search rules
 
 -- the integrity that a write answered is that of its bytes
 own_of : (a : Algorithm) (cache key bytes : List ℕ) (moment : ℕ) (r : Result (List Hash) Error) (old new : List LogItem) → FitsEntry cache (plain_put a key bytes moment) → IsCache cache old
@@ -128,19 +113,14 @@ content_write_means moments numbers a cache bytes r new logged old sound ran =
 
 -- the integrity of an entry that is found
 led_so : (e : Entry) (o : Option (List Hash)) → option_map (λ (f : Found). f.integrity) (option_map (found_of e) o) ≡ o
-led_so e None = refl
-led_so e (Some i) = refl
+led_so e o = grind (arith, common_steps)
 
 inserted_so : (r : Result (List Hash) Error) (cache : List ℕ) (i : Insert) (old new : List LogItem) → refused_cause (insertion cache i) ≡ None → InsertsKey cache i (reply_of Stored r) old new
     → IfOk r (λ j. leads_to cache i.key new ≡ i.options.integrity) × IfErr r (λ e. IsExcused e old new)
-inserted_so (Ok j) cache i old new fits h = (ap (option_map (λ (f : Found). f.integrity)) h ∙ led_so (insertion cache i).entry i.options.integrity, tt)
-inserted_so (Err (IoError fault message)) cache i old new fits h = (tt, excused_error (IoError fault message) old new h)
-inserted_so (Err (SerdeError cause message)) cache i old new fits h = let no : None ≡ Some cause = sym fits ∙ h in absurd cc
-inserted_so r cache i old new fits h = (tt, h)
+inserted_so r cache i old new fits h = grind (arith, led_so, excused_error)
 
 pub early_of : {C : Type 0} (moments : C → Option (List ℕ)) (time : Option ℕ) (old new : C) (moment : ℕ) → ((t : ℕ) → time ≡ Some t → t < 2 ^ 64) → HasMoment moments time old new moment → moment < 2 ^ 64
-early_of moments None old new moment early h = h.1
-early_of moments (Some t) old new moment early h = subst (λ m. m < 2 ^ 64) (sym h.1) (early t refl)
+early_of moments time old new moment early h = grind (arith, common_steps)
 
 -- the entry of a plain insertion
 entry_written : (key : List ℕ) (said : Said) (moment : ℕ) → IsUtf8 key → moment < 2 ^ 64 → SaysPlain said → Written (entry_of key (given_text said.integrity) (given_size said.size) moment (options_of said))
@@ -209,13 +189,11 @@ left_write_means moments numbers a cache key bytes r new utf8 small logged old s
 -- if nothing was said of a link, its integrity is that of its bytes
 own_is : (cache : List ℕ) (key : Option (List ℕ)) (target : List ℕ) (moment : ℕ) (path held : List ℕ) (i : List Hash) (old new : List LogItem)
     → HasLinked cache (put_like (link_to key target moment) held) path i old new → i ≡ integrity_under Sha256 held
-own_is cache None target moment path held i old new h = h.stored
-own_is cache (Some key) target moment path held i old new h = h.stored
+own_is cache key target moment path held i old new h = grind (arith, common_steps)
 
 pub lies_so : (cache path : List ℕ) (own i : List Hash) (old new : List LogItem) → i ≡ own
     → (lies_under cache own new ≡ Some (AtLink path)) ⊎ (IsThere (lies_under cache own old) × (lies_under cache own new ≡ lies_under cache own old)) → LiesLinked cache i path old new
-lies_so cache path own i old new is (inl at) none = ap (λ j. lies_under cache j new) is ∙ at
-lies_so cache path own i old new is (inr h) none = absurd (subst IsThere (sym (ap (λ j. lies_under cache j old) is) ∙ none) h.0)
+lies_so cache path own i old new is h none = grind (arith, common_steps)
 
 module _ (cache : List ℕ) (key : Option (List ℕ)) (target : List ℕ) (moment : ℕ) (path held : List ℕ) (old new : List LogItem) where
   links_bytes : (r : Result (List Hash) Error) → LeavesLink cache (put_like (link_to key target moment) held) path (reply_of Stored r) old new → LinksBytes cache key path held r old new
@@ -267,9 +245,7 @@ module _ (cache : List ℕ) (key : Option (List ℕ)) (target : List ℕ) (momen
 
 pub link_means : {C N : Type 0} (moments : C → Option (List ℕ)) (cache key target : List ℕ) (r : Result (List Hash) Error) (new : Env (List LogItem) C N) → IsUtf8 key → IsLog new.store
     → LinkMeans moments cache key target r new
-link_means moments cache key target r new utf8 logged old apart sound ran =
-    linked_file cache (Some key) target ran.0 old.base r old.store new.store logged (λ bytes small. plain_writes_fit Sha256 cache key bytes ran.0 utf8 small ran.1.1)
-    (λ bytes small. link_written cache old.base key target ran.0 bytes utf8 ran.1.1 small) apart sound ran.2.0
+link_means moments cache key target r new utf8 logged old apart sound ran = search (rules, linked_file, plain_writes_fit, link_written)
 
 pub content_link_means : {C N : Type 0} (cache target : List ℕ) (r : Result (List Hash) Error) (new : Env (List LogItem) C N) → IsLog new.store → ContentLinkMeans cache target r new
 content_link_means cache target r new logged old apart sound ran =

@@ -1,5 +1,5 @@
 -- What open writers did.
-use Rattle.std.proofs.{Common.{◌≡◌, inl, inr, ◌<◌, ◌^◌, ◌++◌, ℕ, Bool, List, Option, None, Some, Result, Ok, Err, length, refl, sym, ap, subst, ◌∙◌, arith, ◌==◌, true, false, cond}, lemmas.Bool.{eq-eqb}}
+use Rattle.std.proofs.{lemmas.{Grind.{common_steps}, Bool.{eq-eqb}}, Common.{rules, ◌≡◌, inl, inr, ◌<◌, ◌^◌, ◌++◌, ℕ, Bool, List, Option, None, Some, Result, Ok, Err, length, refl, sym, ap, subst, ◌∙◌, arith, ◌==◌, true, false, cond}}
 use Rattle.std.specs.{Prelude.{IsUtf8, IfErr}, Io.KnownBytes.{Appends}}
 use Rattle.cacache_core.specs.{declared.{errors.{Error.{Error, TheVariants.{IoError, OutOfMemory, EntryNotFound, SizeMismatch, IntegrityError}}, IntegrityFault.TheVariants.{Check}, SerdeCause.{SerdeCause}}, integrity.{algorithm.Algorithm.{Algorithm}, digest.Hash.{Hash}}}, Integrity.{integrity_under}, Texts.{integrity_text}}
 use Rattle.serde_json.specs.Data.{Data, null}
@@ -58,26 +58,10 @@ openings_mean numbers new logged cache key s r old sound h = opened cache key s 
 
 -- known bytes that grew
 grown : (old new : Option (List ℕ)) (xs more : List ℕ) → old ≡ Some xs → Appends old new more → new ≡ Some (xs ++ more)
-grown None new xs more is h = absurd cc
-grown (Some ys) None xs more is h = absurd h
-grown (Some ys) (Some zs) xs more is h =
-    let same : ys ≡ xs = cc in
-    ap Some (h ∙ ap (λ (x : List ℕ). x ++ more) same)
+grown old new xs more is h = grind (arith, common_steps)
 
 pub writers_go_on : WritersGoOn
-writers_go_on cache key s bytes more w v t appends takes on said = record {
-  number = t.number;
-  opened = t.opened;
-  here = on.0 ∙ t.here;
-  algorithm_is = on.2 ∙ t.algorithm_is;
-  path_is = on.1 ∙ t.path_is;
-  file_is = on.3 ∙ t.file_is;
-  bytes_are = grown w.writer.file.bytes v.writer.file.bytes bytes more t.bytes_are appends;
-  taken = takes bytes t.taken;
-  key_is = ap (λ (x : MemWriter). x.key) said ∙ t.key_is;
-  time_is = ap (λ (x : MemWriter). x.time) said ∙ t.time_is;
-  options_are = ap (λ (x : MemWriter). x.options) said ∙ t.options_are;
-}
+writers_go_on cache key s bytes more w v t appends takes on said = search (rules, opened, grown)
 
 -- ---- commits
 
@@ -86,14 +70,7 @@ abbrev pub put_of : Option (List ℕ) → Said → List ℕ → ℕ → Put
 put_of key s bytes moment = record { key = key; «data» = bytes; moment = moment; options = options_of s }
 
 pub fits : (cache : List ℕ) (key : Option (List ℕ)) (s : Said) (bytes : List ℕ) (moment : ℕ) → SaysFit s → IsText key → length bytes < 2 ^ 64 → FitsEntry cache (put_of key s bytes moment)
-fits cache None s bytes moment says text small k is = absurd cc
-fits cache (Some key) s bytes moment says text small k is = λ none. record {
-  key = (let same : key ≡ k = cc in subst (λ (x : List ℕ). IsUtf8 x) same text);
-  integrity = integrity_utf8 (given_or (said_integrity s bytes) s.integrity);
-  size = small;
-  metadata = says.json;
-  raw_metadata = says.raw;
-}
+fits cache key s bytes moment says text small k is = grind (arith, integrity_utf8)
 
 module _ (cache : List ℕ) (key : Option (List ℕ)) (s : Said) (bytes : List ℕ) (w : MemWriter) (t : IsWriting cache key s bytes w) (small : length bytes < 2 ^ 64) where
   pub commits_bytes : {C N : Type 0} (moments : C → Option (List ℕ)) (r : Result (List Hash) Error) (old new : Env (List LogItem) C N) → IsLog new.store
@@ -118,12 +95,7 @@ leads_so cache (Some key) s bytes moment i old new h k is =
 
 may_lead_so : (cache : List ℕ) (key : Option (List ℕ)) (s : Said) (bytes : List ℕ) (moment : ℕ) (old new : List LogItem) → MayLeadToPut cache (put_of key s bytes moment) old new
     → (k : List ℕ) → key ≡ Some k → MayLeadToEntry cache k s (answered (said_integrity s bytes) s.integrity key) (length bytes) old new
-may_lead_so cache None s bytes moment old new may k is = absurd cc
-may_lead_so cache (Some key) s bytes moment old new may k is =
-    elim (may k is) [
-      | inl same ↦ inl same
-      | inr led ↦ inr (entry_of_put cache (put_of (Some key) s bytes moment) k, led, record { integrity = refl; size = refl; metadata = refl; raw_metadata = refl })
-    ]
+may_lead_so cache key s bytes moment old new may k is = grind (arith, common_steps)
 
 pub commits_mean : {C N : Type 0} (moments : C → Option (List ℕ)) (new : Env (List LogItem) C N) → IsLog new.store → CommitsMean moments new
 commits_mean moments new logged cache key s bytes w (Ok i) old sound t says text small h =
@@ -166,10 +138,7 @@ commits_mean moments new logged cache key s bytes w (Err e) old sound t says tex
 plain_stores : (cache : List ℕ) (key : Option (List ℕ)) (bytes : List ℕ) (moment : ℕ) (a : Algorithm) (durable : Bool) → IsText key → length bytes < 2 ^ 64 → moment < 2 ^ 64
     → put_reply cache (record { key = key; «data» = bytes; moment = moment; options = record { algorithm = a; size = None; integrity = None; metadata = null; raw_metadata = None; durable = durable } }) ≡ Stored (integrity_under a bytes)
 unfolding refused_cause
-plain_stores cache None bytes moment a durable text small early = refl
-plain_stores cache (Some key) bytes moment a durable text small early =
-    ap (unless_unwritable (Stored (integrity_under a bytes)))
-    (bare_written key (Some (integrity_text (integrity_under a bytes))) moment (length bytes) text (integrity_utf8 (integrity_under a bytes)) early small).no_cause
+plain_stores cache key bytes moment a durable text small early = grind (arith, bare_written, integrity_utf8)
 
 said_plain : (cache : List ℕ) (key : Option (List ℕ)) (s : Said) (bytes : List ℕ) (moment : ℕ) → SaysPlain s → s.integrity ≡ None → IsText key → length bytes < 2 ^ 64 → moment < 2 ^ 64
     → put_reply cache (put_of key s bytes moment) ≡ Stored (said_integrity s bytes)
@@ -184,8 +153,7 @@ said_plain cache key s bytes moment plain none text small early =
     ∙ plain_stores cache key bytes moment s.algorithm s.durable text small early
 
 moment_early : {C : Type 0} (moments : C → Option (List ℕ)) (key : Option (List ℕ)) (time : Option ℕ) (old new : C) (moment : ℕ) → ((t : ℕ) → time ≡ Some t → t < 2 ^ 64) → MomentOf moments key time old new moment → moment < 2 ^ 64
-moment_early moments None time old new moment early h = subst (λ m. m < 2 ^ 64) (sym h.1) (omega arith)
-moment_early moments (Some key) time old new moment early h = early_of moments time old new moment early h
+moment_early moments key time old new moment early h = grind (arith, early_of)
 
 pub commits_succeed : {C N : Type 0} (moments : C → Option (List ℕ)) (new : Env (List LogItem) C N) → IsLog new.store → CommitsSucceed moments new
 commits_succeed moments new logged cache key s bytes w r old sound folder file t plain none text small h =
@@ -202,16 +170,10 @@ module _ (cache : List ℕ) (number : ℕ) (path : List ℕ) (is : path ≡ temp
   asked a h = inr (a, subst (λ p. Does (steps.RemoveFile p) a (Some old) (Some new)) is h)
 
   removed : (r : Result (Unit {0}) Error) → RemovesTemp path r (Some old) (Some new) → GivesUpTemp cache number (Some old) (Some new)
-  removed (Ok u) h = asked answers.Done h
-  removed (Err (IoError fault message)) h = asked (answers.Failed fault) h
-  removed (Err OutOfMemory) (inl same) = inl same
-  removed (Err OutOfMemory) (inr h) = asked (answers.Failed h.0) h.1
-  removed r h = absurd h
+  removed r h = grind (arith, asked)
 
   tried : (e : Error) → TriesToRemove path e (Some old) (Some new) → GivesUpTemp cache number (Some old) (Some new)
-  tried OutOfMemory (inl same) = inl same
-  tried OutOfMemory (inr h) = asked h.0 h.1
-  tried e h = asked h.0 h.1
+  tried e h = grind (arith, asked)
 
 pub giving_up_means : {C N : Type 0} (new : Env (List LogItem) C N) → IsLog new.store → GivingUpMeans new
 giving_up_means new logged cache key s bytes w r old sound t h =
@@ -233,41 +195,26 @@ module _ (cache : List ℕ) (key : Option (List ℕ)) (s : Said) (bytes : List �
   Tells r = Unit {0}
 
   written : (r : Reply) (cause : Option SerdeCause) → Tells r → Tells (unless_unwritable r cause)
-  written r None h = h
-  written r (Some cause) h = tt
+  written r cause h = grind (arith, common_steps)
 
   keyed_tells : (k : Option (List ℕ)) → Tells (keyed_reply commit k)
-  keyed_tells None = tt
-  keyed_tells (Some k) = written (insertion_of commit k).reply (refused_cause (insertion_of commit k)) tt
+  keyed_tells k = grind (arith, written)
 
   sized_tells : (size : Option ℕ) → s.size ≡ size → Tells (sized_reply commit size)
-  sized_tells None is = keyed_tells key
-  sized_tells (Some wanted) is = by (wanted == length bytes) refl
-    where
-      by : (b : Bool) → (wanted == length bytes) ≡ b → Tells (cond b (keyed_reply commit key) (Refused (SizeMismatch wanted (length bytes))))
-      by true e = keyed_tells key
-      by false e = (is, refl, λ same. let two : true ≡ false = sym (eq-eqb wanted (length bytes) same) ∙ e in absurd cc)
+  sized_tells size is = grind (arith, keyed_tells)
 
   compared_tells : (expected : Option (List Hash)) → s.integrity ≡ expected → Tells (compared_reply commit expected)
-  compared_tells None is = sized_tells s.size refl
-  compared_tells (Some expected) is = by (matches expected (said_integrity s bytes)) refl
-    where
-      by : (b : Bool) → matches expected (said_integrity s bytes) ≡ b → Tells (cond b (sized_reply commit s.size) (Refused (IntegrityError (Check expected (said_integrity s bytes)))))
-      by true e = sized_tells s.size refl
-      by false e = (expected, is, refl, λ lists. let two : true ≡ false = sym (own_matches expected s.algorithm bytes lists) ∙ e in absurd cc)
+  compared_tells expected is = grind (arith, sized_tells, own_matches)
 
   -- what a reply says without its message, its error says
   plain_tells : (e : Error) → FailsCommit s bytes (without_message e) → FailsCommit s bytes e
-  plain_tells (EntryNotFound c k) h = h
-  plain_tells e h = h
+  plain_tells e h = grind (arith, common_steps)
 
   told : (r : Result (List Hash) Error) → reply_of Stored r ≡ put_reply cache (put_of key s bytes moment) → IfErr r (FailsCommit s bytes)
-  told (Ok i) is = tt
-  told (Err e) is = plain_tells e (subst Tells (sym is) (compared_tells s.integrity refl))
+  told r is = grind (arith, plain_tells, compared_tells)
 
 lost : (s : Said) (bytes : List ℕ) (r : Result (List Hash) Error) → reply_of Stored r ≡ Refused OutOfMemory → IfErr r (FailsCommit s bytes)
-lost s bytes (Ok i) is = tt
-lost s bytes (Err e) is = subst (FailsCommit s bytes) (sym (of_refused e is)) tt
+lost s bytes r is = grind (arith, of_refused)
 
 pub commits_tell : {C N : Type 0} (moments : C → Option (List ℕ)) (new : Env (List LogItem) C N) → IsLog new.store → CommitsTell moments new
 commits_tell moments new logged cache key s bytes w r old sound folder file t small h =

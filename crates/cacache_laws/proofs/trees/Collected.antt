@@ -1,6 +1,6 @@
 -- What is left once the contents that no entry has are removed.
 -- A repair leaves the good contents.
-use Rattle.std.proofs.{Common.{◌≡◌, ◌++◌, inl, inr, ℕ, List, [], ◌∷◌, Bool, true, false, cond, Option, None, Some, Ok, Err, refl, sym, ap, subst, ◌∙◌, filter}, lemmas.Bool.{or_left, or_right, not-true}}
+use Rattle.std.proofs.{Common.{arith, rules, ◌≡◌, ◌++◌, inl, inr, ℕ, List, [], ◌∷◌, Bool, true, false, cond, Option, None, Some, Ok, Err, refl, sym, ap, subst, ◌∙◌, filter}, lemmas.{Grind.{common_steps}, Bool.{or_left, or_right, not-true}}}
 use Rattle.std.specs.Prelude.{All, Contains, not}
 use Rattle.cacache_core.specs.{declared.integrity.digest.Hash.{Hash}, Integrity.{IsHash, IsIntegrity, address}, PathNames.{Names, home_of}, Same.{same_hash-Decides}, Paths.{content_names}, Meeting.{meets}}
 use Rattle.cacache_disk.specs.{Tree.{Tree, look}, Rooted.{Rooted}}
@@ -13,22 +13,17 @@ use Rattle.cacache_laws.proofs.trees.{Indexed.{lists_each_key}, Keeping.{lacks_i
 -- ---- members of filters
 
 in_cond : {X : Type 0} (b : Bool) (x y : X) (ys : List X) → (x ≡ y → b ≡ true) → Member x (y ∷ ys) → Member x (cond b (y ∷ ys) ys)
-in_cond true x y ys is m = m
-in_cond false x y ys is (inl e) = absurd (let wrong : false ≡ true = is e in cc)
-in_cond false x y ys is (inr m) = m
+in_cond b x y ys is m = grind (arith, common_steps)
 
 skip : {X : Type 0} (b : Bool) (x y : X) (ys zs : List X) → (Member x ys → Member x zs) → Member x (y ∷ ys) → Member x (y ∷ zs)
-skip b x y ys zs f (inl e) = inl e
-skip b x y ys zs f (inr m) = inr (f m)
+skip b x y ys zs f h = grind (arith, common_steps)
 
 pub kept_in : {X : Type 0} (p : X → Bool) (x : X) (xs : List X) → p x ≡ true → Member x xs → Member x (filter p xs)
 kept_in p x [] is m = m
 kept_in p x (y ∷ ys) is m = in_cond (p y) x y (filter p ys) (λ e. ap p (sym e) ∙ is) (skip (p y) x y ys (filter p ys) (kept_in p x ys is) m)
 
 out_cond : {X : Type 0} (p : X → Bool) (b : Bool) (x y : X) (ys zs : List X) → p y ≡ b → (Member x ys → Member x zs × (p x ≡ true)) → Member x (cond b (y ∷ ys) ys) → Member x (y ∷ zs) × (p x ≡ true)
-out_cond p true x y ys zs is f (inl e) = (inl e, ap p e ∙ is)
-out_cond p true x y ys zs is f (inr m) = let k = f m in (inr k.0, k.1)
-out_cond p false x y ys zs is f m = let k = f m in (inr k.0, k.1)
+out_cond p b x y ys zs is f h = grind (arith, common_steps)
 
 pub from_kept : {X : Type 0} (p : X → Bool) (x : X) (xs : List X) → Member x (filter p xs) → Member x xs × (p x ≡ true)
 from_kept p x [] m = absurd m
@@ -79,15 +74,10 @@ module _ (site : Site) (home : Names) (t new : Tree) (hashes : List Hash) (stran
 
   -- if nothing was there, nothing is
   unheld : (h : Hash) → IsHash h → (value_of_tree (Some home) t).contents h ≡ None → (value_of_tree (Some home) new).contents h ≡ None
-  unheld h hash none =
-      leaves.kept h hash (λ c.
-      let b = (holds.held h hash).0 (of_dropped h c).0 in
-      let wrong : None ≡ Some b.0 = sym none ∙ b.1 in cc)
-      ∙ none
+  unheld h hash none = search (rules, leaves, of_dropped)
 
   gone_at : (o : Option Blob) (h : Hash) → IsHash h → picked h ≡ false → (value_of_tree (Some home) t).contents h ≡ o → (value_of_tree (Some home) new).contents h ≡ None
-  gone_at None h hash dead e = unheld h hash e
-  gone_at (Some b) h hash dead e = listed_gone h dead ((holds.held h hash).1 (b, e))
+  gone_at o h hash dead e = grind (arith, unheld, listed_gone)
 
   pub others_gone : (h : Hash) → IsHash h → picked h ≡ false → (value_of_tree (Some home) new).contents h ≡ None
   others_gone h hash dead = gone_at ((value_of_tree (Some home) t).contents h) h hash dead refl
@@ -129,9 +119,7 @@ indexes_find site home t entries key bytes found is rooted index answer e =
 file_met : (home : Names) (t new : Tree) (h : Hash) (bytes : List ℕ) (good : Bool) → is_good home t h ≡ good
     → (good ≡ true → content_in home new h ≡ content_in home t h) → (good ≡ false → content_in home new h ≡ None)
     → content_in home new h ≡ Some (InFile bytes) → meets (h ∷ []) bytes ≡ true
-file_met home t new h bytes true is kept gone there =
-    sym (ap (λ b. is_met (h ∷ []) (blob_bytes t b)) (sym (kept refl) ∙ there)) ∙ is
-file_met home t new h bytes false is kept gone there = let wrong : None ≡ Some (InFile bytes) = sym (gone refl) ∙ there in absurd cc
+file_met home t new h bytes good is kept gone there = grind (arith, common_steps)
 
 pub repairs_leave : RepairsLeave
 repairs_leave site home t mid new hashes strange is holds removed keeps =

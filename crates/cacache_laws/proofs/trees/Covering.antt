@@ -1,5 +1,5 @@
 -- A walk finds what is below its folder, and nothing else.
-use Rattle.std.proofs.{Common.{◌≡◌, ◌==◌, ◌⊎◌, inl, inr, ◌+◌, ◌<◌, ℕ, Bool, true, false, List, [], ◌∷◌, ◌++◌, Option, None, Some, Ok, length, refl, sym, ap, subst, ◌∙◌, arith, append_assoc, append-nil}, lemmas.{List.Elements.{All-nil, All-cons, All-append}, Slice.Eq.{bytes_eq-Decides}}}
+use Rattle.std.proofs.{lemmas.{Grind.{common_steps}, List.Elements.{All-nil, All-cons, All-append}, Slice.Eq.{bytes_eq-Decides}}, Common.{rules, ◌≡◌, ◌==◌, ◌⊎◌, inl, inr, ◌+◌, ◌<◌, ℕ, Bool, true, false, List, [], ◌∷◌, ◌++◌, Option, None, Some, Ok, length, refl, sym, ap, subst, ◌∙◌, arith, append_assoc, append-nil}}
 use Rattle.std.specs.Prelude.{All, IsTrue, unwrap_or, bytes_eq}
 use Rattle.cacache_core.{specs.{PathNames.{Names, names_of, home_of, names_below, is_bad, IsProperName}, Paths.{join, joined}}, proofs.JoinedNames.{joined_texts_name}}
 use Rattle.cacache_store.specs.{declared.store.{answer.{Kind.{Kind}, Name.{Name}}, step.Step.TheVariants.{ReadDir}}, Plain.{PlainStep, PlainAnswer}}
@@ -32,11 +32,7 @@ pub record Shown (g : Spot) (t : Tree) (p : Names) (m : PlainStep × PlainAnswer
   pub files : shown_by m.0 m.1 ≡ file_paths g.path names
 
 shown_in : (g : Spot) (t : Tree) (p : Names) (m : PlainStep × PlainAnswer) (names : List Name) (luck : Luck) → Rooted t → names_of g.path ≡ Ok p → m.0 ≡ ReadDir g.path → m.1 ≡ (apply t m.0 luck).0 → names_shown m.1 ≡ Some names → Shown g t p m names
-shown_in g t p m names luck rooted named is answer e = record {
-  rooted = rooted;
-  shows = folder_shown t g.path p luck names rooted named (ap (λ s. names_shown (apply t s luck).0) (sym is) ∙ ap names_shown (sym answer) ∙ e);
-  files = ap (λ s. shown_by s m.1) is ∙ ap (λ o. file_paths g.path (unwrap_or o [])) e;
-}
+shown_in g t p m names luck rooted named is answer e = search (rules, folder_shown)
 
 -- ---- what is below is found
 
@@ -56,8 +52,7 @@ module _ (g : Spot) (t : Tree) (p : Names) (m : PlainStep × PlainAnswer) (ns : 
   here_not x xs is = inr (t, inl refl, is)
 
   a_file : (x : List ℕ) (kind : Kind) → Member (record { name = x; kind = kind }) ns → file_as kind (join g.path x) ≡ Some (join g.path x) → Covered (m ∷ moves) (t ∷ trees) (join g.path x) (p ++ x ∷ [])
-  a_file x kind stands is =
-      inl (in_left (join g.path x) (shown_by m.0 m.1) (files_shown moves) (subst (Member (join g.path x)) (sym shown.files) (mapped (λ (n : Name). file_as n.kind (join g.path n.name)) (record { name = x; kind = kind }) (join g.path x) ns stands is)))
+  a_file x kind stands is = search (rules, in_left, mapped)
 
   below_leaf : (x : List ℕ) (y : List ℕ) (ys : Names) (node : Node) → look t (p ++ x ∷ []) ≡ Some node → (Some node ≡ Some Folder → ⊥) → is_leaf (look t (p ++ x ∷ y ∷ ys)) ≡ false
   below_leaf x y ys node is apart =
@@ -102,16 +97,13 @@ covers (m ∷ moves) (t ∷ trees) (g ∷ todo) r a f base x xs k named =
 -- ---- what is found is below
 
 deeper_path : (k : Kind) (path : List ℕ) (level : ℕ) (f : Spot) → folder_as k path level ≡ Some f → f.path ≡ path
-deeper_path kinds.Folder path level f e = let same : record { path = path; level = level + 1 } ≡ f = cc in ap (λ (h : Spot). h.path) (sym same)
-deeper_path k path level f e = absurd cc
+deeper_path k path level f e = grind (arith, common_steps)
 
 file_leaf : (node : Node) (path found : List ℕ) → file_as (kind_of node) path ≡ Some found → (found ≡ path) × (is_leaf (Some node) ≡ true)
-file_leaf Folder path found e = absurd cc
-file_leaf node path found e = (cc, refl)
+file_leaf node path found e = grind (arith, common_steps)
 
 some_more : (ns : Names) (n : List ℕ) → 0 < length (ns ++ n ∷ [])
-some_more [] n = omega arith
-some_more (m ∷ ns) n = omega arith
+some_more ns n = grind (arith, common_steps)
 
 module _ (top : List ℕ) (base : Names) where
   -- a folder's path is these names below the top
@@ -193,13 +185,7 @@ module _ (top : List ℕ) (base : Names) where
 
   first_named : names_of top ≡ Ok base → AllNamed (top_folder top ∷ [])
   unfolding AllNamed
-  first_named is f (inl same) = record {
-    names = [];
-    path = ap (λ (h : Spot). h.path) same;
-    proper = All-nil IsProperName;
-    named = ap (λ (h : Spot). names_of h.path) same ∙ is ∙ ap Ok (sym (append-nil base));
-  }
-  first_named is f (inr k) = absurd k
+  first_named is f h = grind (arith, common_steps)
 
 -- ---- both
 

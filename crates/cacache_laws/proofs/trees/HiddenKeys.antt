@@ -1,6 +1,6 @@
 -- After a tombstone its key leads to nothing, and each other key leads where it led.
 -- Removals of contents and tombstones leave each thing in its place.
-use Rattle.std.proofs.{Common.{◌≡◌, ◌≤◌, ℕ, Bool, true, false, cond, nat_le, List, [], ◌∷◌, ◌++◌, Option, None, Some, Result, Ok, Err, inl, inr, length, refl, sym, ap, ap₂, subst, ◌∙◌, leb-true, append-nil}, lemmas.{List.Sums.{fold-append}, Slice.Eq.{bytes_eq-Decides}}}
+use Rattle.std.proofs.{Common.{arith, rules, ◌≡◌, ◌≤◌, ℕ, Bool, true, false, cond, nat_le, List, [], ◌∷◌, ◌++◌, Option, None, Some, Result, Ok, Err, inl, inr, length, refl, sym, ap, ap₂, subst, ◌∙◌, leb-true, append-nil}, lemmas.{Grind.{common_steps}, List.Sums.{fold-append}, Slice.Eq.{bytes_eq-Decides}}}
 use Rattle.std.specs.{Prelude.{bytes_eq}, List.{AllByRecursion}}
 use Rattle.sha1.specs.Sha1.{sha1}
 use Rattle.cacache_core.specs.{declared.{errors.{Fault.{Fault, TheVariants.{ShortAppend}}, SerdeCause.{SerdeCause}}, integrity.digest.Hash.{Hash}}, PathNames.{Names, home_of, names_below, names_of}, Paths.{bucket_names_of, joined, content_names}, Integrity.{IsHash}}
@@ -44,12 +44,10 @@ module _ (site : Site) (d : Delete) where
     pub are : moves ≡ (steps.MakeDirs (bucket_folder site.cache d.key), answers.Done) ∷ (steps.Append (bucket_path site.cache d.key) (bucket_line i), answers.Took count) ∷ []
 
   took_all : (b : Bool) (n : ℕ) (moves : Moves) → nat_le (length (bucket_line i)) n ≡ b → Runs (cond b (recorded i) (fails ShortAppend)) moves Done → (length (bucket_line i) ≤ n) × (moves ≡ [])
-  took_all true n moves e run = (leb-true (length (bucket_line i)) n e, (ended moves Done run).0)
-  took_all false n moves e run = absurd (let wrong = (ended moves _ run).1 in cc)
+  took_all b n moves e run = grind (arith, ended)
 
   appended : (t : PlainAnswer) (moves : Moves) → Runs (after (appending i) t) moves Done → (n : ℕ) × (t ≡ answers.Took n) × (length (bucket_line i) ≤ n) × (moves ≡ [])
-  appended (answers.Took n) moves run = let took = took_all (nat_le (length (bucket_line i)) n) n moves refl run in (n, refl, took.0, took.1)
-  appended t moves run = absurd (let e = (ended moves _ run).1 in cc)
+  appended t moves run = grind (arith, took_all, ended)
 
   append_run : (moves : Moves) → Runs (appending i) moves Done → (n : ℕ) × (length (bucket_line i) ≤ n) × (moves ≡ (steps.Append (bucket_path site.cache d.key) (bucket_line i), answers.Took n) ∷ [])
   append_run [] (inl e) = absurd cc
@@ -60,8 +58,7 @@ module _ (site : Site) (d : Delete) where
       (rest.0, rest.2, pair m (steps.Append (bucket_path site.cache d.key) (bucket_line i)) (answers.Took rest.0) more [] (sym step) rest.1 rest.3)
 
   made : (t : PlainAnswer) (moves : Moves) → Runs (after (doing (make_folder (bucket_folder site.cache d.key)) (appending i)) t) moves Done → (t ≡ answers.Done) × Runs (appending i) moves Done
-  made answers.Done moves run = (refl, run)
-  made t moves run = absurd (let e = (ended moves _ run).1 in cc)
+  made t moves run = grind (arith, ended)
 
   inserted : (cause : Option SerdeCause) (moves : Moves) → refused_cause i ≡ cause → Runs (unless_refused i cause) moves Done → Buried moves
   inserted (Some cause) moves e run = absurd (let wrong = (ended moves _ run).1 in cc)
@@ -90,8 +87,7 @@ module _ (cache : List ℕ) (d : Delete) where
   apart key false e other = refl
 
   other_at : (b : Bool) (key : List ℕ) (o : Option (List Entry)) → (key ≡ d.key → ⊥) → latest key (list_of (cond b (Some (list_of o ++ tomb ∷ [])) o)) ≡ latest key (list_of o)
-  other_at true key o other = latest_more key (list_of o) tomb ∙ rw (apart key (bytes_eq d.key key) refl other) refl
-  other_at false key o other = refl
+  other_at b key o other = grind (arith, latest_more, apart)
 
   own_at : (b : Bool) (o : Option (List Entry)) → b ≡ true → latest d.key (list_of (cond b (Some (list_of o ++ tomb ∷ [])) o)) ≡ None
   own_at true o e = latest_more d.key (list_of o) tomb ∙ rw ((bytes_eq-Decides d.key d.key).1 refl) refl
@@ -100,8 +96,7 @@ module _ (cache : List ℕ) (d : Delete) where
 -- without a closing byte the line is the entry's
 short : (cache : List ℕ) (d : Delete) (n : ℕ) → length (bucket_line (deletion cache d)) ≤ n → length (line_of (deletion cache d).entry) ≤ n
 unfolding bucket_line
-short cache d n low =
-    subst (λ (l : List ℕ). length l ≤ n) (append-nil (line_of (deletion cache d).entry)) low
+short cache d n low = search rules
 
 -- ---- its two steps
 
@@ -125,11 +120,7 @@ module _ (site : Site) (d : Delete) (formed : calls.FormedIfWritten (deletion si
 
   -- the value after them
   buckets_made : (v : Value) (p digest : List ℕ) → (change folder (act_of (steps.MakeDirs p) Plain answers.Done) v).buckets digest ≡ v.buckets digest
-  buckets_made v p digest = by (names_of p)
-    where
-      by : (r : Result Names Fault) → (change (home_of site.cache) (act_at r (λ names. act_with (folders_left names Plain answers.Done) (MakeFolders names))) v).buckets digest ≡ v.buckets digest
-      by (Ok names) = refl
-      by (Err fault) = refl
+  buckets_made v p digest = search rules
 
   -- where the bucket lies
   record At : Type 0 where
@@ -186,12 +177,7 @@ tombstones_hide site home d moves t is formed run answered placed =
 
 module _ (folder : Option Names) where
   pub step_housed : (t : Tree) (step : PlainStep) → Proper folder step → ToKeys folder step → AppendsOwn folder step → Housed folder t → Housed folder (apply t step Plain).1
-  step_housed t step proper to own h = record {
-    placed = steps_keep_placed folder t step Plain h.placed proper;
-    keyed = step_keyed folder t h.placed h.keyed step Plain proper to;
-    formed = step_formed folder t step Plain h.placed proper h.formed;
-    own = step_own folder t step Plain h.placed proper own h.own;
-  }
+  step_housed t step proper to own h = search (rules, steps_keep_placed, step_keyed, step_formed, step_own)
 
   -- ---- what is next to the cache
 
@@ -201,8 +187,7 @@ module _ (folder : Option Names) where
       dirs_keep t q (Some node) is p Plain (λ names count named. make_keeps t [] names q node count is)
 
   no_bucket : (q : Names) → Beside folder q → path_kind folder q ≡ Bucket → ⊥
-  no_bucket q (inl out) is = let wrong : Elsewhere ≡ Bucket = sym out ∙ is in absurd cc
-  no_bucket q (inr way) is = let wrong : Way ≡ Bucket = sym way ∙ is in absurd cc
+  no_bucket q h is = grind (arith, common_steps)
 
   -- an append writes to a bucket
   append_still : (base t : Tree) (p bytes : List ℕ) → Placed folder t → Proper folder (steps.Append p bytes) → Still folder base t → Still folder base (apply t (steps.Append p bytes) Plain).1

@@ -1,6 +1,6 @@
 -- On a tree that nobody changes, a listing reads each bucket and lists the entry of each key.
 -- The listed addresses are those that the value holds.
-use Rattle.std.proofs.{Common.{◌≡◌, inl, inr, ℕ, ◌+◌, List, [], ◌∷◌, ◌++◌, Option, Some, None, Bool, true, false, cond, nat_lt, Result, Ok, Err, refl, sym, ap, ap₂, subst, ◌∙◌, append_assoc, arith}, lemmas.List.Elements.{All-cons, All-nil}}
+use Rattle.std.proofs.{lemmas.{Grind.{common_steps}, List.Elements.{All-cons, All-nil}}, Common.{rules, ◌≡◌, inl, inr, ℕ, ◌+◌, List, [], ◌∷◌, ◌++◌, Option, Some, None, Bool, true, false, cond, nat_lt, Result, Ok, Err, refl, sym, ap, ap₂, subst, ◌∙◌, append_assoc, arith}}
 use Rattle.std.specs.Prelude.{◌↔◌, Contains, map}
 use Rattle.sha1.specs.Sha1.{sha1}
 use Rattle.cacache_core.specs.{declared.{errors.Fault.{Fault, TheVariants.{NotFound, TooDeep, IsADirectory}}, integrity.digest.Hash.{Hash}}, PathNames.{Names, names_of, home_of, IsProperName}, Paths.{join, joined, cut_digits, bucket_names, index_area, content_names, content_area}, Integrity.{IsHash}, Texts.{name_of}}
@@ -86,8 +86,7 @@ module _ (t : Tree) (rooted : Rooted t) where
     at_node x (y ∷ ys) here is all leaf = absurd (below_no x y ys here is (λ e. cc) leaf)
 
     reached_first : (x : List ℕ) (xs : Names) → FolderShows t base names → is_leaf (look t (base ++ x ∷ xs)) ≡ true → Member (reads (joined p (x ∷ xs))) (m ∷ moves)
-    reached_first x xs (listed all) leaf = at_node x xs (look t (base ++ x ∷ [])) refl all leaf
-    reached_first x xs (missing apart none) leaf = absurd (no_leaf base (look t (base ++ x ∷ xs)) (none_below t base x xs rooted apart) leaf)
+    reached_first x xs h leaf = grind (arith, listed, at_node, missing, no_leaf, none_below)
 
   reaches : (moves : Moves) (todo : List Task) → ReadsAll todo moves → AnsweredBy t moves → Reaches todo moves
   reaches moves [] r a p level base x xs k named leaf = absurd k
@@ -109,22 +108,18 @@ module _ (t : Tree) (rooted : Rooted t) where
   -- ---- what can be read is a file or a link
 
   judged : (here : Option Node) (names : Names) (go : List ℕ → Result Names Fault) (bytes : List ℕ) → look t names ≡ here → and_then (on_link here names go) (λ n. bytes_there IsADirectory (look t n)) ≡ Ok bytes → is_leaf here ≡ true
-  judged None names go bytes is e = let wrong : Err NotFound ≡ Ok bytes = rw is at e in absurd cc
-  judged (Some Folder) names go bytes is e = let wrong : Err IsADirectory ≡ Ok bytes = rw is at e in absurd cc
-  judged here names go bytes is e = refl
+  judged here names go bytes is e = grind (arith, common_steps)
 
   placed_leaf : (names : Names) (fault : Option Fault) (bytes : List ℕ) → and_then (and_then (or_fault fault names) (followed 16 t)) (λ n. bytes_there IsADirectory (look t n)) ≡ Ok bytes → is_leaf (look t names) ≡ true
   unfolding followed
-  placed_leaf names None bytes e = judged (look t names) names (λ target. and_then (standing t target) (followed 15 t)) bytes refl e
-  placed_leaf names (Some fault) bytes e = absurd cc
+  placed_leaf names fault bytes e = grind (arith, judged)
 
   file_leaf : (path : List ℕ) (names : Names) (bytes : List ℕ) → names_of path ≡ Ok names → file_at t path IsADirectory ≡ Ok bytes → is_leaf (look t names) ≡ true
   unfolding file_at leads place
   file_leaf path names bytes is e = placed_leaf names (way_fault t [] names) bytes (rw is at e)
 
   answered : (r : Result (List ℕ) Fault) (bytes : List ℕ) → (unless r t (λ b. (Bytes b, t))).0 ≡ Bytes bytes → r ≡ Ok bytes
-  answered (Ok b) bytes e = let same : b ≡ bytes = cc in ap Ok same
-  answered (Err fault) bytes e = absurd cc
+  answered r bytes e = grind (arith, common_steps)
 
   read_leaf : (path : List ℕ) (names : Names) (bytes : List ℕ) → names_of path ≡ Ok names → (apply t (ReadAll path) Plain).0 ≡ Bytes bytes → is_leaf (look t names) ≡ true
   unfolding apply
@@ -156,11 +151,7 @@ module _ (site : Site) (home : Names) (t : Tree) (rooted : Rooted t) (is : home_
       g.gives (Ok found) (given_member (reads t rooted path) moves (Ok found) read (rw answer (lists_found key (entries_of bytes) found e)))
 
 pub lists_each_key : ListsEachKey
-lists_each_key site home t moves items key bytes found is rooted run answered fine answer e =
-    elim (listing_runs items moves (join site.cache index_area) run) [
-      | inl bad ↦ absurd (let wrong : true ≡ false = sym bad.2 ∙ fine bad.0 (contains_member bad.0 items bad.1) in cc)
-      | inr g ↦ contains_member (Ok found) items (item_in site home t rooted is key bytes found moves items answer e answered g)
-    ]
+lists_each_key site home t moves items key bytes found is rooted run answered fine answer e = search (rules, listing_runs, contains_member, item_in, answered)
 
 leaf_held : (here : Option Node) → is_leaf here ≡ true → (blob : Blob) × (blob_in here ≡ Some blob)
 leaf_held (Some (File bytes)) e = (InFile bytes, refl)
@@ -168,9 +159,7 @@ leaf_held (Some (Link target)) e = (AtLink target, refl)
 leaf_held here e = absurd cc
 
 held_leaf : (here : Option Node) (blob : Blob) → blob_in here ≡ Some blob → is_leaf here ≡ true
-held_leaf (Some (File bytes)) blob e = refl
-held_leaf (Some (Link target)) blob e = refl
-held_leaf here blob e = absurd cc
+held_leaf here blob e = grind (arith, common_steps)
 
 pub top_named : (cache : List ℕ) (home : Names) → home_of cache ≡ Some home → names_of (join cache content_area) ≡ Ok (home ++ content_area ∷ [])
 top_named cache home is = joined_texts_name cache (content_area ∷ []) (All-cons IsProperName content_area [] proper_content_folder (All-nil IsProperName)) (omega arith) ∙ rw is refl
@@ -208,10 +197,7 @@ in_one h (g ∷ hs) (inl e) = inl (ap (λ x. x ∷ []) e)
 in_one h (g ∷ hs) (inr m) = inr (in_one h hs m)
 
 pub contains_one : (h : Hash) (hs : List Hash) → Contains hs h ↔ Contains (map (λ x. x ∷ []) hs) (h ∷ [])
-contains_one h hs = (
-  (λ c. contains_member (h ∷ []) (map (λ x. x ∷ []) hs) (in_one h hs (member_contains h hs c))),
-  (λ c. contains_member h hs (one_in h hs (member_contains (h ∷ []) (map (λ x. x ∷ []) hs) c))),
-)
+contains_one h hs = search (rules, contains_member, in_one, member_contains, one_in)
 
 module _ (cache : List ℕ) (files : List (List ℕ)) (addresses : List (List Hash)) (strange : List (List ℕ)) (sorts : Sorts cache files addresses strange) where
   those_of : AreThoseOf cache files addresses

@@ -1,6 +1,6 @@
 -- What removals of contents leave, and that lookups and reads by key don't see them.
 -- A call that adds a tombstone leaves the contents.
-use Rattle.std.proofs.{Common.{◌≡◌, ◌⊎◌, inl, inr, ℕ, List, [], ◌∷◌, ◌++◌, Some, None, Bool, true, false, cond, Result, Ok, Err, refl, sym, ap, subst, ◌∙◌, arith, Option}, lemmas.{List.{append_cancel_left}, Bool.{false_from_ne_true}}}
+use Rattle.std.proofs.{lemmas.{Grind.{common_steps}, List.{append_cancel_left}, Bool.{false_from_ne_true}}, Common.{rules, ◌≡◌, ◌⊎◌, inl, inr, ℕ, List, [], ◌∷◌, ◌++◌, Some, None, Bool, true, false, cond, Result, Ok, Err, refl, sym, ap, subst, ◌∙◌, arith, Option}}
 use Rattle.std.specs.Prelude.{Contains}
 use Rattle.sha1.specs.Sha1.{sha1}
 use Rattle.cacache_core.specs.{declared.{errors.Fault.{Fault, TheVariants.{NotFound}}, integrity.digest.Hash.{Hash}}, Integrity.{IsHash, IsIntegrity}, PathNames.{Names, names_of, home_of}, Paths.{joined, content_names, bucket_names, bucket_names_of}}
@@ -61,16 +61,11 @@ module _ (cache : List ℕ) (home : Names) (is : home_of cache ≡ Some home) wh
 
   -- each of them was a file or link
   after_leaf : (t : Tree) (h g : Hash) → IsHash h → (apply t (RemoveFile (joined cache (content_names h))) Plain).0 ≡ Done → is_leaf (look (apply t (RemoveFile (joined cache (content_names h))) Plain).1 (home ++ content_names g)) ≡ true → is_leaf (look t (home ++ content_names g)) ≡ true
-  after_leaf t h g hash e leaf = by (same_path (home ++ content_names g) (home ++ content_names h)) (ap is_leaf (sym (look_after t h (home ++ content_names g) hash e)) ∙ leaf)
-    where
-      by : (b : Bool) → is_leaf (cond b None (look t (home ++ content_names g))) ≡ true → is_leaf (look t (home ++ content_names g)) ≡ true
-      by true e = absurd cc
-      by false e = e
+  after_leaf t h g hash e leaf = search (rules, look_after)
 
   stood : (hs : List Hash) (t new : Tree) (h : Hash) → ((g : Hash) → Member g hs → IsHash g) → Removes cache hs t new → Member h hs → is_leaf (look t (home ++ content_names h)) ≡ true
   stood [] t new h hashes r m = absurd m
-  stood (k ∷ hs) t new h hashes r (inl same) =
-      ap (λ (g : Hash). is_leaf (look t (home ++ content_names g))) same ∙ leaf_done t (joined cache (content_names k)) (home ++ content_names k) (content_named cache home k is (hashes k (inl refl))) r.0
+  stood (k ∷ hs) t new h hashes r (inl same) = search (rules, leaf_done, content_named, hashes)
   stood (k ∷ hs) t new h hashes r (inr m) =
       after_leaf t k h (hashes k (inl refl)) r.0 (stood hs (apply t (RemoveFile (joined cache (content_names k))) Plain).1 new h (λ g n. hashes g (inr n)) r.1 m)
 
@@ -167,14 +162,12 @@ module _ (site : Site) (home : Names) (t new : Tree) (listing : Moves) (items : 
   }
 
 pub collections_keep_reads : CollectionsKeepReads
-collections_keep_reads site home t new listing items dropped key moves reply is rooted out ls at fine integrities apart r run answered =
-    get_moves site.cache home t new is (lacks_idle site home t new listing items dropped is rooted out ls at fine integrities apart r) key reply moves run answered
+collections_keep_reads site home t new listing items dropped key moves reply is rooted out ls at fine integrities apart r run answered = search (rules, get_moves, lacks_idle)
 
 -- ---- lookups
 
 report_over : (t : Tree) (site : Site) (key : List ℕ) (u : PlainAnswer) (more : Moves) (reply : Reply) → Runs (after (looking (record { cache = site.cache; key = key; aim = aims.Report })) u) more reply → AnsweredBy t more
-report_over t site key (answers.Failed NotFound) more reply run = over_done t _ more reply run
-report_over t site key u more reply run = over_done t _ more reply run
+report_over t site key u more reply run = grind (arith, over_done)
 
 bucket_kept : (site : Site) (home : Names) (t new : Tree) (dropped : List Hash) (key : List ℕ) → home_of site.cache ≡ Some home → LinksLeadOut home t → ((h : Hash) → Member h dropped → IsHash h) → Removes site.cache dropped t new → (apply new (ReadAll (bucket_path site.cache key)) Plain).0 ≡ (apply t (ReadAll (bucket_path site.cache key)) Plain).0
 unfolding bucket_path
@@ -201,13 +194,7 @@ module _ (folder : Option Names) (v : Value) (h : Hash) where
   Keeps act = (change folder act v).contents h ≡ v.contents h
 
   act_keeps : (act : Act) (step : PlainStep) → MayAct act step → May (allows adding step) → Keeps act
-  act_keeps (PutBytes names bytes) (steps.Persist f p) is may = absurd may
-  act_keeps (PutBytes names bytes) step is may = absurd is
-  act_keeps (PutLink names target) (steps.Symlink to p) is may = absurd may
-  act_keeps (PutLink names target) step is may = absurd is
-  act_keeps (Drop names) (steps.RemoveFile p) is may = absurd may
-  act_keeps (Drop names) step is may = absurd is
-  act_keeps act step is may = refl
+  act_keeps act step is may = grind (arith, common_steps)
 
 -- ---- a run
 

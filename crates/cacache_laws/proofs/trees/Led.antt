@@ -1,5 +1,5 @@
 -- In a cache where each thing lies in its place a listing of the index lists what lookups find.
-use Rattle.std.proofs.{Common.{◌≡◌, inl, inr, ℕ, Bool, true, false, cond, List, [], ◌∷◌, ◌++◌, Option, Some, Ok, Err, take, refl, sym, ap, subst, ◌∙◌}, lemmas.List.Elements.{All-nil, All-cons, All-head, All-tail, All-append, All-take}}
+use Rattle.std.proofs.{Common.{arith, ◌≡◌, inl, inr, ℕ, Bool, true, false, cond, List, [], ◌∷◌, ◌++◌, Option, Some, Ok, Err, take, refl, sym, ap, subst, ◌∙◌}, lemmas.{Grind.{common_steps}, List.Elements.{All-nil, All-cons, All-head, All-tail, All-append, All-take}}}
 use Rattle.std.specs.Prelude.{All, Contains}
 use Rattle.sha1.specs.Sha1.{sha1}
 use Rattle.cacache_core.specs.{declared.errors.{Fault.TheVariants.{IsADirectory, NotFound}, Error.TheVariants.{OutOfMemory}}, Integrity.{IsIntegrity}, PathNames.{Names, names_of, home_of}, Paths.{bucket_names_of}}
@@ -93,9 +93,7 @@ indexes_lead site home t entries f is rooted housed index c =
 -- ---- a lookup
 
 by_answer : (key : List ℕ) (found : Option Found) (bucket : Option (List Entry)) (a : PlainAnswer) → ShowsBucket bucket a → LookedUp found ≡ find_reply key (bucket_shown a) → found ≡ latest key (list_of bucket)
-by_answer key found bucket (answers.Bytes bytes) h e = let same : found ≡ latest key (entries_of bytes) = cc in same ∙ ap (λ b. latest key (list_of b)) (sym h)
-by_answer key found bucket (answers.Failed NotFound) h e = let same : found ≡ latest key [] = cc in same ∙ ap (λ b. latest key (list_of b)) (sym h)
-by_answer key found bucket a h e = absurd cc
+by_answer key found bucket a h e = grind (arith, common_steps)
 
 file_read : (t : Tree) (path : List ℕ) (names : Names) (bytes : List ℕ) → Rooted t → names_of path ≡ Ok names → look t names ≡ Some (File bytes) → file_at t path IsADirectory ≡ Ok bytes
 unfolding file_at leads place followed
@@ -106,8 +104,7 @@ pub file_shown : (t : Tree) (path : List ℕ) (names : Names) (bytes : List ℕ)
 file_shown t path names bytes rooted is there = read_answer t path ∙ ap said (file_read t path names bytes rooted is there)
 
 bucket_at : (key : List ℕ) (found : Found) (here node : Option Node) → node ≡ here → latest key (list_of (bucket_in here)) ≡ Some found → (bytes : List ℕ) × (node ≡ Some (File bytes)) × (latest key (entries_of bytes) ≡ Some found)
-bucket_at key found (Some (File bytes)) there is e = (bytes, is, e)
-bucket_at key found here there is e = absurd cc
+bucket_at key found here there is e = grind (arith, common_steps)
 
 module _ (site : Site) (home : Names) (t : Tree) (is : home_of site.cache ≡ Some home) (rooted : Rooted t) where
   below : (key : List ℕ) → NamesBelow (Some home) (bucket_names_of (sha1 key)) (bucket_path site.cache key)

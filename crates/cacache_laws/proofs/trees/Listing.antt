@@ -1,6 +1,6 @@
 -- A run of a listing reads each folder and each bucket that its walk comes to, and lists what they hold.
 -- Two listings of one tree are the same.
-use Rattle.std.proofs.Common.{◌≡◌, ◌⊎◌, inl, inr, ℕ, ◌+◌, ◌-◌, List, [], ◌∷◌, ◌++◌, Some, None, Bool, true, false, cond, nat_le, nat_lt, Result, Ok, Err, refl, ap, subst, ◌∙◌, length, take, append-nil, ap₂, sym}
+use Rattle.std.proofs.{Common.{arith, rules, ◌≡◌, ◌⊎◌, inl, inr, ℕ, ◌+◌, ◌-◌, List, [], ◌∷◌, ◌++◌, Some, None, Bool, true, false, cond, nat_le, nat_lt, Result, Ok, Err, refl, ap, subst, ◌∙◌, length, take, append-nil, ap₂, sym}, lemmas.Grind.{common_steps}}
 use Rattle.std.specs.{List.{AllByRecursion, Sorted.{IsStrictlySortedBy}}, declared.cmp.Ordering.{Ordering, TheVariants.{Less, Greater}}, Ordering.{ordering_reverse}, Cmp.{IsTotalOrder, nat_cmp_total, on_total, then_total, Lexicographic.{nat_list_cmp_total}}}
 use Rattle.cacache_core.specs.{declared.{errors.{Fault.{Fault, TheVariants.{NotFound, TooDeep}}, Error.TheVariants.{OutOfMemory}}, integrity.digest.Hash.{Hash}}, Paths.{join}, Integrity.{rank}}
 use Rattle.cacache_store.specs.{declared.store.{answer.{Kind.{Kind}, Name.{Name}}, step.Step.TheVariants.{ReadDir, ReadAll}}, Plain.{PlainStep, PlainAnswer}}
@@ -30,12 +30,10 @@ Fine (Stumble fault path ∷ todo) = (fault ≡ TooDeep) × Fine todo
 Fine todo = ⊥
 
 deeper_fine : (b : Bool) (p : List ℕ) (level : ℕ) (todo : List Task) → Fine todo → Fine (cond b (Make (Enter p level)) (Stumble TooDeep p) ∷ todo)
-deeper_fine true p level todo h = h
-deeper_fine false p level todo h = (refl, h)
+deeper_fine b p level todo h = grind (arith, common_steps)
 
 task_fine : (kind : Kind) (level : ℕ) (p : List ℕ) (todo : List Task) → Fine todo → Fine (task_for_name false level p kind ∷ todo)
-task_fine kinds.Folder level p todo h = deeper_fine (nat_lt level 16) p (level + 1) todo h
-task_fine kind level p todo h = h
+task_fine kind level p todo h = grind (arith, deeper_fine)
 
 tasks_fine : (level : ℕ) (p : List ℕ) (names : List Name) (todo : List Task) → Fine todo → Fine (tasks_of false level p names ++ todo)
 tasks_fine level p [] todo h = h
@@ -44,12 +42,10 @@ tasks_fine level p (n ∷ ns) todo h = task_fine n.kind level (join p n.name) (t
 -- ---- answers
 
 shown_ok : (t : PlainAnswer) (names : List Name) → names_in t ≡ Ok names → names_shown t ≡ Some names
-shown_ok (answers.Names ns) names e = let same : ns ≡ names = cc in ap Some same
-shown_ok t names e = absurd cc
+shown_ok t names e = grind (arith, common_steps)
 
 shown_missing : (t : PlainAnswer) → names_in t ≡ Err (refusals.Fault NotFound) → names_shown t ≡ Some []
-shown_missing (answers.Failed NotFound) e = refl
-shown_missing t e = absurd cc
+shown_missing t e = grind (arith, common_steps)
 
 abbrev pub lists : List Item → ℕ → Walk
 lists items left = record { clears = false; items = items; left = left }
@@ -155,15 +151,7 @@ module _ (list : List Item) where
             ];
           })
         ]
-    reading p todo items left (Err (refusals.Fault NotFound)) is step fine run =
-        elim (goes_on moves visits todo fine items left run) [
-          | inl bad ↦ inl bad
-          | inr g ↦ inr (record {
-            reads = (step, g.reads);
-            keeps = g.keeps;
-            gives = λ x k. g.gives x (subst (λ (l : List Item). Member x (l ++ items_given moves)) (ap (λ s. given_by s m.1) step ∙ ap by_bucket is) k);
-          })
-        ]
+    reading p todo items left (Err (refusals.Fault NotFound)) is step fine run = search (rules, goes_on)
     reading p todo items left (Err (refusals.Fault fault)) is step fine run =
         spoiled moves todo (Make (ReadBucket p) ∷ todo) items fault (m ∷ moves) refl (missed moves todo items left fault (goes_on moves visits todo fine) run)
     reading p todo items left (Err refusals.Memory) is step fine run = absurd (let e : Refused OutOfMemory ≡ Listed list = (ended moves (Refused OutOfMemory) run).1 in cc)
@@ -195,14 +183,11 @@ module _ {K : Type 0} (c : K → K → Ordering) (order : IsTotalOrder c) where
 
   -- two that come first and are among the other list's are the same
   same_first : (x y : K) (xs ys : List K) → AllByRecursion (λ z. c x z ≡ Less) xs → AllByRecursion (λ z. c y z ≡ Less) ys → Member x (y ∷ ys) → Member y (x ∷ xs) → x ≡ y
-  same_first x y xs ys low high (inl same) m = same
-  same_first x y xs ys low high (inr n) (inl same) = sym same
-  same_first x y xs ys low high (inr n) (inr m) = absurd (not_both x y (above x y xs low m) (above y x ys high n))
+  same_first x y xs ys low high h m = grind (arith, not_both, above)
 
   -- after the first one
   behind : (x y z : K) (xs ys : List K) → x ≡ y → AllByRecursion (λ z. c x z ≡ Less) xs → Member z xs → Member z (y ∷ ys) → Member z ys
-  behind x y z xs ys same low m (inl e) = let less : c x x ≡ Less = ap (c x) (same ∙ sym e) ∙ above x z xs low m in absurd (not_both x x less less)
-  behind x y z xs ys same low m (inr n) = n
+  behind x y z xs ys same low m h = grind (arith, above, not_both)
 
   pub same_sorted : (xs ys : List K) → IsStrictlySortedBy c xs → IsStrictlySortedBy c ys → ((z : K) → Member z xs → Member z ys) → ((z : K) → Member z ys → Member z xs) → xs ≡ ys
   unfolding IsStrictlySortedBy
@@ -220,17 +205,12 @@ hash_total : IsTotalOrder hash_cmp
 hash_total = then_total (on_total (λ (h : Hash). rank h.algorithm) nat_cmp_total) (on_total (λ (h : Hash). h.digest) nat_list_cmp_total)
 
 pub holdings_agree : HoldingsAgree
-holdings_agree cache home t hashes others strange stranger one two =
-    same_sorted hash_cmp hash_total hashes others one.ascend two.ascend
-    (λ h m. let c = contains_member h hashes m in let f = one.formed h c in member_contains h others ((two.held h f).1 ((one.held h f).0 c)))
-    (λ h m. let c = contains_member h others m in let f = two.formed h c in member_contains h hashes ((one.held h f).1 ((two.held h f).0 c)))
+holdings_agree cache home t hashes others strange stranger one two = search (rules, same_sorted, hash_total, contains_member, member_contains)
 
 -- ---- entries
 
 items_agree : (items others : List Item) → (Listed items ≡ Listed others) ⊎ (IsMemory (Listed items) ⊎ IsMemory (Listed others)) → items ≡ others
-items_agree items others (inl same) = cc
-items_agree items others (inr (inl memory)) = absurd cc
-items_agree items others (inr (inr memory)) = absurd cc
+items_agree items others h = grind (arith, common_steps)
 
 pub indexes_agree : IndexesAgree
 indexes_agree site t entries others one two =

@@ -1,5 +1,5 @@
 -- The tree before reads answered what the log of a store in memory gained by them, and it stayed.
-use Rattle.std.proofs.{Common.{◌≡◌, inl, inr, List, [], ◌∷◌, ◌++◌, Option, None, Some, Result, Ok, Err, map, refl, sym, ap, subst, ◌∙◌, append_assoc}, lemmas.List.{map-append}}
+use Rattle.std.proofs.{Common.{arith, ◌≡◌, inl, inr, List, [], ◌∷◌, ◌++◌, Option, None, Some, Result, Ok, Err, map, refl, sym, ap, subst, ◌∙◌, append_assoc}, lemmas.{Grind.{common_steps}, List.{map-append}}}
 use Rattle.std.specs.Prelude.{Contains, option_map}
 use Rattle.cacache_core.specs.declared.errors.Fault.{Fault}
 use Rattle.cacache_store.specs.declared.store.{log.LogItem.{LogItem, TheVariants.{Made, Foreign, ForeignFolder}}, step.Step.TheVariants.{MakeDirs}}
@@ -15,8 +15,7 @@ use Rattle.cacache_walks.specs.Reading.{Folder, ReadsFolders, folders_in}
 -- ---- the tree of a log is rooted
 
 planted_stays : (t : Tree) (r : Result Tree Fault) → Rooted t → ((new : Tree) → r ≡ Ok new → Rooted new) → Rooted (changed t r)
-planted_stays t (Ok new) rooted h = h new refl
-planted_stays t (Err fault) rooted h = rooted
+planted_stays t r rooted h = grind (arith, common_steps)
 
 item_rooted : (t : Tree) (item : LogItem) → Rooted t → Rooted (after t item)
 item_rooted t (Made step answer) rooted = steps_keep_rooted t step Plain rooted
@@ -34,10 +33,7 @@ log_rooted log = replay_rooted bare log bare_rooted
 -- ---- moves, one part after another
 
 pub gains_join : (a b c : Option (List LogItem)) (xs ys : Moves) → Gains a b xs → Gains b c ys → Gains a c (xs ++ ys)
-gains_join None b c xs ys e f = f ∙ ap (option_map (λ log. log ++ map (λ m. Made m.0 m.1) ys)) e
-gains_join (Some old) b c xs ys e f =
-    f ∙ ap (option_map (λ log. log ++ map (λ m. Made m.0 m.1) ys)) e
-    ∙ ap Some (append_assoc old (map (λ m. Made m.0 m.1) xs) (map (λ m. Made m.0 m.1) ys) ∙ ap (λ l. old ++ l) (sym (map-append (λ m. Made m.0 m.1) xs ys)))
+gains_join a b c xs ys e f = grind (arith, common_steps)
 
 pub tree_split : (t : Tree) (xs ys : Moves) → tree_on t (xs ++ ys) ≡ tree_on (tree_on t xs) ys
 tree_split t [] ys = refl

@@ -1,5 +1,5 @@
 -- What a clearing that doesn't break off leaves of a tree.
-use Rattle.std.proofs.Common.{◌≡◌, inl, inr, ◌==◌, ◌<◌, ◌≤◌, ◌+◌, ◌-◌, ℕ, zero, suc, Bool, true, false, cond, nat_le, List, [], ◌∷◌, ◌++◌, None, Some, Ok, length, refl, sym, ap, subst, ◌∙◌, arith, append_assoc, eqb-true}
+use Rattle.std.proofs.Common.{rules, ◌≡◌, inl, inr, ◌==◌, ◌<◌, ◌≤◌, ◌+◌, ◌-◌, ℕ, zero, suc, Bool, true, false, cond, nat_le, List, [], ◌∷◌, ◌++◌, None, Some, Ok, length, refl, sym, ap, subst, ◌∙◌, arith, append_assoc, eqb-true}
 use Rattle.std.specs.Prelude.{nat_lt}
 use Rattle.cacache_core.specs.declared.errors.Fault.TheVariants as faults
 use Rattle.cacache_core.specs.{declared.errors.Error.TheVariants.{IoError}, Paths.{join}, PathNames.{Names, names_of}}
@@ -20,11 +20,7 @@ use Rattle.cacache_history.proofs.{Listings.ToldFolders.{Told, AreDistinct, list
 -- ---- names
 
 deep : (level : ℕ) → (level + 1 == 0) ≡ false
-deep level = by (level + 1 == 0) refl
-  where
-    by : (b : Bool) → (level + 1 == 0) ≡ b → b ≡ false
-    by true e = absurd (omega (arith, eqb-true (level + 1) 0 e))
-    by false e = refl
+deep level = search rules
 
 leads_on : (t : Tree) (moves more : Moves) (mid : Tree) (later : Moves) (last : Tree) → tree_on t moves ≡ tree_on t more → tree_on t more ≡ tree_on mid later → tree_on mid later ≡ last → tree_on t moves ≡ last
 leads_on t moves more mid later last e f g = e ∙ f ∙ g

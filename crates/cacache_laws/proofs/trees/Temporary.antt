@@ -1,5 +1,5 @@
 -- A sweep takes the temporary files out of a tree, and nothing else.
-use Rattle.std.proofs.{Common.{◌≡◌, ◌==◌, if◌then◌else◌, inl, inr, ℕ, Bool, true, false, cond, Option, List, [], ◌∷◌, ◌++◌, None, Some, Ok, map, filter, length, refl, sym, ap, subst, ◌∙◌, append_assoc, arith}, lemmas.{Bool.{and_parts, eqb-true, false_from_ne_true}, List.{length-map, nil_from_length, Elements.{All-cons, All-nil}}, Slice.Eq.{bytes_eq-Decides}}}
+use Rattle.std.proofs.{lemmas.{Grind.{common_steps}, Bool.{and_parts, eqb-true, false_from_ne_true}, List.{length-map, nil_from_length, Elements.{All-cons, All-nil}}, Slice.Eq.{bytes_eq-Decides}}, Common.{rules, ◌≡◌, ◌==◌, if◌then◌else◌, inl, inr, ℕ, Bool, true, false, cond, Option, List, [], ◌∷◌, ◌++◌, None, Some, Ok, map, filter, length, refl, sym, ap, subst, ◌∙◌, append_assoc, arith}}
 use Rattle.std.specs.Prelude.{bytes_eq, codes}
 use Rattle.cacache_core.specs.{PathNames.{Names, names_of, home_of, is_bad, is_name, pieces, IsProperName}, Paths.{join, temp_area, content_names, bucket_names_of}}
 use Rattle.cacache_core.proofs.{JoinedNames.{joined_texts_name}, ProperNames.{proper_temp_folder}}
@@ -24,8 +24,7 @@ none_listed t p rooted none =
 
 -- what a listing shows are the names that are there
 all_shown : (t : Tree) (p : Names) (names : List Name) → Rooted t → FolderShows t p names → names ≡ listing t p
-all_shown t p names rooted (listed e) = e
-all_shown t p names rooted (missing none e) = e ∙ sym (none_listed t p rooted none)
+all_shown t p names rooted h = grind (arith, listed, missing, none_listed)
 
 pub names_listed : (t : Tree) (path : List ℕ) (p : Names) (names : List Name) → Rooted t → names_of path ≡ Ok p
     → names_shown (apply t (ReadDir path) Plain).0 ≡ Some names → names ≡ listing t p
@@ -40,11 +39,7 @@ cache_named_by cache home true empty is =
     let none : cache ≡ [] = nil_from_length cache (eqb-true (length cache) 0 empty) in
     let here : home_of [] ≡ Some home = ap home_of (sym none) ∙ is in
     (let same : [] ≡ home = cc in ap Ok same, here)
-cache_named_by cache home false some is = by (is_bad cache) refl
-  where
-    by : (bad : Bool) → is_bad cache ≡ bad → (names_of cache ≡ Ok home) × (home_of cache ≡ Some home)
-    by true bad = let wrong : None ≡ Some home = sym (rw bad refl) ∙ is in absurd cc
-    by false fine = let same : filter is_name (pieces cache) ≡ home = cc in (rw (some, fine) (ap Ok same), is)
+cache_named_by cache home false some is = search rules
 
 -- the path of the cache folder names it
 pub cache_named : (cache : List ℕ) (home : Names) → home_of cache ≡ Some home → (names_of (cache_folder cache) ≡ Ok home) × (home_of (cache_folder cache) ≡ Some home)
@@ -81,12 +76,7 @@ other_stands t home k m s same kind other there =
     other (sym kind ∙ s.kind ∙ ap kind_of node)
 
 area_by : (t : Tree) (home : Names) (here : Option Kind) → area_of (listing t home) ≡ here → AreaStands t (home ++ temp_area ∷ []) here
-area_by t home None is = λ there. area_missing (listing t home) (record { name = temp_area; kind = kinds.Folder }) is (child_listed t home temp_area Folder there) refl
-area_by t home (Some kinds.Folder) is = tt
-area_by t home (Some kinds.File) is =
-    let m = area_named (listing t home) kinds.File is in other_stands t home kinds.File m.0 (listed_child t home m.0 m.1) m.2 m.3 (λ e. cc)
-area_by t home (Some kinds.Link) is =
-    let m = area_named (listing t home) kinds.Link is in other_stands t home kinds.Link m.0 (listed_child t home m.0 m.1) m.2 m.3 (λ e. cc)
+area_by t home here is = grind (arith, area_missing, child_listed, area_named, other_stands, listed_child)
 
 pub area_stands : (t : Tree) (home : Names) (around : List Name) → around ≡ listing t home → AreaStands t (home ++ temp_area ∷ []) (area_of around)
 area_stands t home around is = subst (λ (l : List Name). AreaStands t (home ++ temp_area ∷ []) (area_of l)) (sym is) (area_by t home (area_of (listing t home)) refl)
@@ -123,8 +113,7 @@ module _ (folder : List ℕ) (p : Names) (named : names_of folder ≡ Ok p) wher
       ∙ look-cut t (p ++ r.0.name ∷ []) q ∙ rw off refl
 
   none_cut : (b : Bool) (t : Tree) (q : Names) → look t q ≡ None → cond b None (look t q) ≡ None
-  none_cut true t q e = refl
-  none_cut false t q e = e
+  none_cut b t q e = grind (arith, common_steps)
 
   none_still : (rs : List (Name × ℕ)) (t : Tree) (q : Names) → ((n : Name) → Member n (names_in rs) → IsProperName n.name) → AreAnswered t (sized_removals folder rs)
       → look t q ≡ None → look (tree_on t (sized_removals folder rs)) q ≡ None
@@ -153,9 +142,7 @@ pub temp_area_named : (cache : List ℕ) (home : Names) → home_of cache ≡ So
 temp_area_named cache home is = joined_texts_name cache (temp_area ∷ []) (All-cons IsProperName temp_area [] proper_temp_folder (All-nil IsProperName)) (omega arith) ∙ rw is refl
 
 pub file_node : (node : Node) (kind : Kind) → kind ≡ kind_of node → is_file kind ≡ true → (bytes : List ℕ) × (node ≡ File bytes)
-file_node Folder kind is file = absurd (let wrong : is_file kinds.Folder ≡ true = ap is_file (sym is) ∙ file in cc)
-file_node (File bytes) kind is file = (bytes, refl)
-file_node (Link target) kind is file = absurd (let wrong : is_file kinds.Link ≡ true = ap is_file (sym is) ∙ file in cc)
+file_node node kind is file = grind (arith, common_steps)
 
 -- below a folder, one name deeper
 deeper : (home : Names) (name : List ℕ) → (home ++ temp_area ∷ []) ++ name ∷ [] ≡ temp_at home name

@@ -1,5 +1,6 @@
 -- A read of a content that is there shows whether it is good.
-use Rattle.std.{proofs.Common.{◌≡◌, inl, inr, ℕ, List, [], ◌∷◌, ◌++◌, Option, Some, Bool, true, false, cond, Result, Ok, Err, refl, sym, ap, subst, ◌∙◌}, specs.Prelude.{◌↔◌}}
+use Rattle.std.proofs.{Common.{arith, rules, ◌≡◌, inl, inr, ℕ, List, [], ◌∷◌, ◌++◌, Option, Some, Bool, true, false, cond, Result, Ok, Err, refl, sym, ap, subst, ◌∙◌}, lemmas.Grind.{common_steps}}
+use Rattle.std.specs.Prelude.{◌↔◌}
 use Rattle.cacache_core.specs.{declared.{errors.{Fault.{Fault, TheVariants.{IsADirectory}}, Error.TheVariants.{IoError, IntegrityError}, IntegrityFault.TheVariants.{Check}}, integrity.digest.Hash.{Hash}}, Integrity.{IsHash, actual}, Meeting.{meets}, PathNames.{Names, names_of, home_of}, Paths.{joined, content_names}}
 use Rattle.cacache_store.specs.{declared.store.step.Step.TheVariants.{ReadAll}, Plain.{PlainAnswer}}
 use Rattle.cacache_disk.specs.{declared.{luck.Luck.TheVariants.{Plain}, node.Node.{Node, TheVariants.{File, Link}}}, Tree.{Tree, look}, LedTo.{place, followed, leads, file_at}, Apply.{apply}, Rooted.{Rooted}}
@@ -19,18 +20,10 @@ leaf_read t path names (Some (Link target)) blob rooted is there e = rw (is, way
 leaf_read t path names here blob rooted is there e = absurd cc
 
 met : (i : List Hash) (b : List ℕ) (reply : Reply) (m : Bool) → meets i b ≡ m → reply ≡ cond m (Read b) (Refused (IntegrityError (Check i (actual i b)))) → ((bytes : List ℕ) × (reply ≡ Read bytes)) ↔ (meets i b ≡ true)
-met i b reply true is e = ((λ k. is), (λ k. (b, e)))
-met i b reply false is e = (
-  (λ k. absurd (let wrong : Refused (IntegrityError (Check i (actual i b))) ≡ Read k.0 = sym e ∙ k.1 in cc)),
-  (λ k. absurd (let wrong : false ≡ true = sym is ∙ k in cc)),
-)
+met i b reply m is e = grind (arith, common_steps)
 
 tells : (i : List Hash) (r : Result (List ℕ) Fault) (reply : Reply) → reply ≡ content_reply i (bytes_in (said r)) → ((bytes : List ℕ) × (reply ≡ Read bytes)) ↔ (is_met i r ≡ true)
-tells i (Ok b) reply e = met i b reply (meets i b) refl e
-tells i (Err fault) reply e = (
-  (λ k. absurd (let wrong : Refused (IoError fault []) ≡ Read k.0 = sym e ∙ k.1 in cc)),
-  (λ k. absurd (let wrong : false ≡ true = k in cc)),
-)
+tells i r reply e = grind (arith, met)
 
 module _ (site : Site) (home : Names) (t : Tree) (h : Hash) (blob : Blob) (is : home_of site.cache ≡ Some home) (rooted : Rooted t) (hash : IsHash h) (stands : (value_of_tree (Some home) t).contents h ≡ Some blob) where
   -- what the content's path leads to has the bytes that the cache holds there
@@ -47,8 +40,4 @@ module _ (site : Site) (home : Names) (t : Tree) (h : Hash) (blob : Blob) (is : 
       tells (h ∷ []) (blob_bytes t ((value_of_tree (Some home) t).contents h)) reply (e ∙ ap (λ x. content_reply (h ∷ []) (bytes_in x)) (at.0 ∙ content_answer))
 
 pub reads_tell_good : ReadsTellGood
-reads_tell_good site home t h blob moves reply is rooted hash stands run answered =
-    elim (reads_shown site (h ∷ []) moves reply run) [
-      | inl memory ↦ inl memory
-      | inr shown ↦ inr (told site home t h blob is rooted hash stands moves reply shown.0 shown.1 shown.2 answered)
-    ]
+reads_tell_good site home t h blob moves reply is rooted hash stands run answered = search (rules, reads_shown, told)

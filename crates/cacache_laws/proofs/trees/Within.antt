@@ -1,5 +1,5 @@
 -- What a part of a tree reads, the whole tree reads too.
-use Rattle.std.proofs.Common.{◌≡◌, ℕ, zero, suc, List, [], ◌∷◌, ◌++◌, Option, Some, None, Result, Ok, Err, refl, sym, ap, ◌∙◌}
+use Rattle.std.proofs.{Common.{arith, rules, ◌≡◌, ℕ, zero, suc, List, [], ◌∷◌, ◌++◌, Option, Some, None, Result, Ok, Err, refl, sym, ap, ◌∙◌}, lemmas.Grind.{common_steps}}
 use Rattle.cacache_core.specs.{declared.errors.Fault.{Fault, TheVariants.{IsADirectory, TooDeep}}, PathNames.{Names, names_of}}
 use Rattle.cacache_store.specs.declared.store.{step.Step.TheVariants.{ReadAll}, answer.Answer.TheVariants.{Bytes}}
 use Rattle.cacache_disk.specs.{declared.{luck.Luck.TheVariants.{Plain}, node.Node.{Node, TheVariants.{Folder, File, Link}}}, Tree.{Tree, look}, LedTo.{and_then, or_fault, through, way_fault, place, standing, where_there, on_link, followed, leads, bytes_there, file_at}, Apply.{apply}}
@@ -12,20 +12,16 @@ abbrev pub Within : Tree → Tree → Type 0
 Within part whole = (q : Names) (node : Node) → look part q ≡ Some node → look whole q ≡ Some node
 
 pub through_none : (here : Option Node) (later : Option Fault) → through here later ≡ None → (here ≡ Some Folder) × (later ≡ None)
-through_none (Some Folder) later e = (refl, e)
-through_none here later e = absurd cc
+through_none here later e = grind (arith, common_steps)
 
 pub something_there : (here : Option Node) (old new : Names) → where_there here old ≡ Ok new → (node : Node) × (here ≡ Some node)
-something_there None old new e = absurd cc
-something_there (Some node) old new e = (node, refl)
+something_there here old new e = grind (arith, common_steps)
 
 pub file_there : (here : Option Node) (bytes : List ℕ) → bytes_there IsADirectory here ≡ Ok bytes → here ≡ Some (File bytes)
-file_there (Some (File b)) bytes e = let same : b ≡ bytes = cc in ap (λ x. Some (File x)) same
-file_there here bytes e = absurd cc
+file_there here bytes e = grind (arith, common_steps)
 
 bytes_said : (r : Result (List ℕ) Fault) (bytes : List ℕ) → said r ≡ Bytes bytes → r ≡ Ok bytes
-bytes_said (Ok b) bytes e = let same : b ≡ bytes = cc in ap Ok same
-bytes_said (Err fault) bytes e = absurd cc
+bytes_said r bytes e = grind (arith, common_steps)
 
 pub read_answer : (t : Tree) (path : List ℕ) → (apply t (ReadAll path) Plain).0 ≡ said (file_at t path IsADirectory)
 unfolding apply
@@ -67,8 +63,7 @@ module _ (part whole : Tree) (within : Within part whole) where
 
   followed_within : (n : ℕ) (names new : Names) (node : Node) → look part new ≡ Some node → followed n part names ≡ Ok new → followed n whole names ≡ Ok new
   unfolding followed
-  followed_within zero names new node stands e =
-      follow_at (look part names) (look whole names) names new node (λ target. Err TooDeep) (λ target. Err TooDeep) refl refl (within names) stands (λ target k. k) e
+  followed_within zero names new node stands e = search (rules, follow_at)
   followed_within (suc n) names new node stands e =
       follow_at (look part names) (look whole names) names new node (λ target. and_then (standing part target) (followed n part)) (λ target. and_then (standing whole target) (followed n whole)) refl refl (within names) stands
       (λ target k.
@@ -85,8 +80,7 @@ module _ (part whole : Tree) (within : Within part whole) where
       rw (place_within path g.0 g.1, followed_within 16 g.0 f.0 (File bytes) there g.2, within f.0 (File bytes) there) refl
 
   read_within : (path : List ℕ) (bytes : List ℕ) → (apply part (ReadAll path) Plain).0 ≡ Bytes bytes → (apply whole (ReadAll path) Plain).0 ≡ Bytes bytes
-  read_within path bytes e =
-      read_answer whole path ∙ ap said (file_within path bytes (bytes_said (file_at part path IsADirectory) bytes (sym (read_answer part path) ∙ e)))
+  read_within path bytes e = search (rules, read_answer, said, file_within, bytes_said)
 
   pub finds_within : (cache key : List ℕ) (found : Found) → Finds cache part key found → Finds cache whole key found
   finds_within cache key found f = (f.0, read_within _ f.0 f.1, f.2)

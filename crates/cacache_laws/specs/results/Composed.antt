@@ -1,18 +1,22 @@
 -- What calls that are made of others gave their caller and left, by their results, on a store in memory.
-use Rattle.std.specs.{Prelude.{◌≡◌, ◌⊎◌, ◌<◌, ◌^◌, ℕ, Bool, true, false, List, Option, Some, Vec, Result, Ok, IfOk, IfErr, MatchResult, length}, Global.{Global}}
-use Rattle.cacache_core.specs.declared.{errors.Error.{Error, TheVariants.{OutOfMemory}}, integrity.digest.Hash.{Hash}}
+use Rattle.std.specs.{Prelude.{◌≡◌, ◌⊎◌, ◌<◌, ◌^◌, ℕ, Bool, true, false, List, [], Option, Some, Vec, Result, Ok, Err, IfOk, IfErr, MatchResult, length}, Global.{Global}}
+use Rattle.cacache_core.specs.{declared.{errors.{Error.{Error, TheVariants.{IoError, OutOfMemory}}, Fault.{Fault, TheVariants.{NotFound}}}, integrity.{algorithm.Algorithm.TheVariants.{Sha256}, digest.Hash.{Hash}}}, Integrity.{integrity_under}}
 use Rattle.cacache_store.specs.declared.{env.Env.{Env}, store.log.LogItem.{LogItem}}
-use Rattle.cacache_disk.specs.memory.Replay.{tree_of}
+use Rattle.cacache_disk.specs.{LedTo.{free}, memory.Replay.{tree_of}}
 use Rattle.cacache_calls.specs.declared.command.{How.TheVariants.{HardLink}, Source.{Source}}
-use Rattle.cacache_sync.specs.{declared.{layers.Layered.{Layered}, ways.{Exported.{Exported}, ExportMode.{ExportMode}}}, GetOrPut.{GetsOrPuts}, Layers.{AsksHash, AsksLayers, FindsKey, ReadsHash, ReadsKey, finds_none, lacks_content, lacks_entry, says_no}, Ways.{Tries, export_reply, ways}}
+use Rattle.cacache_sync.specs.{declared.{layers.Layered.{Layered}, ways.{Exported.{Exported}, ExportMode.{ExportMode}}}, GetOrPut.{GetsOrPuts}, Layers.{AsksHash, AsksLayers, FindsKey, ReadsHash, ReadsKey, finds_none, lacks_content, lacks_entry, says_no}, Ways.{ExportsTo, export_reply}}
 use Rattle.cacache_history.specs.History.{NamesSource}
-use Rattle.cacache_laws.specs.{Caches.{Grows, HasContent, HasKey, IsCache, IsExcused, LacksKey}, ExportEffects.{IsApart, NamesBytes}, Exported.{Arrives}, Keeping.{found_under}, OpenSucceeds.{MayTake}, OpenWriters.{LeavesKnownCache}, Succeeds.{NamesFolder}, results.{Exports.{RefusesSource}, Reads.{AskedContent, ContentRead, EntryFound, KeyLiesWhole, KeyRead}, Success.{FailsForMemory}}}
+use Rattle.cacache_laws.specs.{Caches.{Grows, HasContent, HasKey, IsCache, IsExcused, LacksKey}, ExportEffects.{IsApart, NamesBytes}, Exported.{Arrives}, Keeping.{found_under}, OpenSucceeds.{MayTake}, OpenWriters.{LeavesKnownCache}, Succeeds.{NamesFolder}, results.{Exports.{RefusesSource}, Reads.{AskedContent, ContentRead, EntryFound, KeyLiesWhole, KeyRead}, Success.{FailsFor, FailsForMemory}, Writes.{DontClash}}}
 
 -- ---- exports by the first way that is open
 
--- The bytes are where the path leads, and a count is theirs, or the error is excused. If the cache's path names
--- a folder, damaged bytes and a key that leads to nothing have their own errors, and an error left the whole
--- tree, unless memory was refused
+-- what is at the path, or why nothing can be made there; a folder that is missing isn't asked for here
+abbrev pub IsTaken : List ℕ → Fault → List LogItem → Type 0
+IsTaken to fault log = (free (tree_of log) to ≡ Err fault) × (fault ≡ NotFound → ⊥)
+
+-- The bytes are where the path leads, and a count is theirs, or the error is excused. If something is at the
+-- path, the error says so, and nothing changed. If the cache's path names a folder, damaged bytes and a key that
+-- leads to nothing have their own errors, and an error left the whole tree, unless memory was refused
 pub record WentOut (cache : List ℕ) (source : Source) (to : List ℕ) (r : Result Exported Error)
     (old new : List LogItem) : Type 0 where
   pub leaves : LeavesKnownCache cache old new
@@ -21,7 +25,10 @@ pub record WentOut (cache : List ℕ) (source : Source) (to : List ℕ) (r : Res
       (λ e. IsExcused e old new)
   pub succeeds : (bytes : List ℕ) → NamesFolder cache → NamesBytes cache source bytes old
       → MayTake HardLink to old → FailsForMemory r
-  pub refuses : NamesFolder cache → RefusesSource cache source true r old
+  pub taken : (fault : Fault) → IsTaken to fault old
+      → FailsFor (IoError fault []) r × (tree_of new ≡ tree_of old)
+  pub refuses : ((fault : Fault) → IsTaken to fault old → ⊥)
+      → NamesFolder cache → RefusesSource cache source true r old
   pub stays : NamesFolder cache
       → IfErr r (λ e. (e ≡ OutOfMemory) ⊎ (tree_of new ≡ tree_of old))
 
@@ -54,8 +61,15 @@ module _ {C N R : Type 0} where
 
 -- ---- bytes that are read, or fetched and stored
 
+-- the bytes don't give way to fetched ones: if both have one address, they are the same
+abbrev pub LastsBeside :
+    (Result (Vec ℕ Global) Error → Type 0) → List Hash → List ℕ → Type 0
+LastsBeside Fetches i bytes =
+    (v : Vec ℕ Global) → Fetches (Ok v)
+    → DontClash i bytes (integrity_under Sha256 v.items) v.items
+
 -- The key leads to the bytes, which it led to before or which were fetched. Whatever is answered, other keys
--- lead where they led
+-- lead where they led, and what met its integrity at its address still does
 pub record GotOrPut (cache key : List ℕ) (Fetches : Result (Vec ℕ Global) Error → Type 0)
     (r : Result (Vec ℕ Global) Error) (old new : List LogItem) : Type 0 where
   pub sound : IsCache cache new
@@ -65,6 +79,8 @@ pub record GotOrPut (cache key : List ℕ) (Fetches : Result (Vec ℕ Global) Er
       → HasKey cache key i bytes old → MatchResult r (λ v. v.items ≡ bytes) (λ e. e ≡ OutOfMemory)
   pub others : (other : List ℕ) → (other ≡ key → ⊥)
       → found_under cache other new ≡ found_under cache other old
+  pub keeps : (i : List Hash) (bytes : List ℕ) → LastsBeside Fetches i bytes
+      → HasContent cache i bytes old → HasContent cache i bytes new
 
 -- ---- laws, of the environment that a call left
 
@@ -75,7 +91,7 @@ module _ {C N : Type 0} where
   ExportMeans cache to r new =
       (source : Source) (mode : ExportMode) (old : Env (List LogItem) C N) → IsApart cache to
       → NamesSource source → IsCache cache old.store
-      → Tries (λ log. Some log) cache source to (ways mode) old new r
+      → ExportsTo (λ log. Some log) cache source to mode old new r
       → WentOut cache source to r old.store new.store
 
   -- a read of layers by key is a read of one of them, and the upper one has no entry if it is one of the lower

@@ -9,8 +9,9 @@ use cacache_store::env::{Clock, Env, Names};
 use cacache_sync::Exported;
 
 /// After `export_sync` and `export_hash_sync`, in any mode, to a path apart from the cache: the bytes are where the path
-/// leads, and the count of a copy is theirs, or the error is excused. All that was known stays. If the cache's path names a
-/// folder, an error left the whole tree, unless memory was refused.
+/// leads, and the count of a copy is theirs, or the error is excused. If something was at the path, the error says so, and
+/// nothing changed. All that was known stays. If the cache's path names a folder, an error left the whole tree, unless
+/// memory was refused.
 pub fn after_export<C: Clock, N: Names>(
     env: &Env<MemStore, C, N>,
     cache: &str,
@@ -34,7 +35,8 @@ pub fn layered_laws<C: Clock, N: Names>(env: &Env<MemStore, C, N>)
 }
 
 /// After `get_or_put_sync` with a closure of this type: the key leads to the bytes that were given, which it led to before,
-/// or which were fetched. So a damaged content is mended. Whatever is answered, other keys lead where they led.
+/// or which were fetched. So a damaged content is mended. Whatever is answered, other keys lead where they led, and what
+/// met its integrity at its address still does.
 pub fn after_get_or_put<C: Clock, N: Names, F: FnOnce() -> Result<Vec<u8>>>(
     env: &Env<MemStore, C, N>,
     cache: &str,

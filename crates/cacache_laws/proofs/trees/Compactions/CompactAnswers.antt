@@ -1,5 +1,5 @@
 -- What our own lookups find in lines, and which keys a listing looks up.
-use Rattle.std.proofs.{Common.{◌≡◌, ◌⊎◌, inl, inr, ℕ, List, [], ◌∷◌, Bool, true, false, cond, not, ◌&&◌, ◌||◌, Option, Some, None, option_map, fold, map, filter_map, refl, sym, ap, subst, ◌∙◌, bytes_eq}, lemmas.{Slice.Eq.{bytes_eq-Decides}, Bool.{or_parts}}}
+use Rattle.std.proofs.{Common.{arith, rules, ◌≡◌, ◌⊎◌, inl, inr, ℕ, List, [], ◌∷◌, Bool, true, false, cond, not, ◌&&◌, ◌||◌, Option, Some, None, option_map, fold, map, filter_map, refl, sym, ap, subst, ◌∙◌, bytes_eq}, lemmas.{Grind.{common_steps}, Slice.Eq.{bytes_eq-Decides}, Bool.{or_parts}}}
 use Rattle.std.specs.{Prelude.{is_some, option_and_then, unwrap_or}, List.{cons_option, list_any}, Option.{option_flatten}, Str.{is_utf8}}
 use Rattle.cacache_entry.specs.{Entry.{Entry}, EntryTexts.{read_entry}, Bucket.{cut, without_cr, entry_of_parts, entry_of_piece, entries_of}, Latest.{Found, answer_of, after_entry, latest}}
 use Rattle.cacache_calls.specs.{State.{Item}, Walking.{once}}
@@ -9,17 +9,14 @@ use Rattle.cacache_laws.proofs.trees.Compactions.{CompactLines.{ArePieces, texts
 -- ---- we are such a reader
 
 none_either : (b : Bool) → cond {A = Option Entry} b None None ≡ None
-none_either true = refl
-none_either false = refl
+none_either b = grind (arith, common_steps)
 
 unsigned : (parts : List (List ℕ)) → signed_parts parts ≡ false → entry_of_parts parts ≡ None
-unsigned (digest ∷ text ∷ []) is = ap (λ (b : Bool). cond b (read_entry text) None) is
-unsigned parts is = refl
+unsigned parts is = grind (arith, common_steps)
 
 -- what is no line is no entry
 pub no_entry : (p : List ℕ) → is_line p ≡ false → entry_of_piece (without_cr p) ≡ None
-no_entry p is =
-    ap (λ (o : Option Entry). cond (is_utf8 (without_cr p)) o None) (unsigned (cut 9 (without_cr p)) is) ∙ none_either (is_utf8 (without_cr p))
+no_entry p is = search (rules, unsigned, none_either)
 
 pub ours : ReadsLines decision
 ours = record { lines = λ p is. ap (option_and_then decision_of) (no_entry p is); decisions = λ p d is. is }
@@ -35,12 +32,7 @@ abbrev pub found_as : Option (List ℕ) → Option Found
 found_as o = option_and_then found_in o
 
 pub same_key : (a b : List ℕ) → bytes_eq a b ≡ bytes_eq b a
-same_key a b = by (bytes_eq a b) refl (bytes_eq b a) refl
-  where
-    by : (x : Bool) → bytes_eq a b ≡ x → (y : Bool) → bytes_eq b a ≡ y → x ≡ y
-    by true e false f = let no : true ≡ false = sym ((bytes_eq-Decides b a).1 (sym ((bytes_eq-Decides a b).0 e))) ∙ f in absurd cc
-    by false e true f = let no : true ≡ false = sym ((bytes_eq-Decides a b).1 (sym ((bytes_eq-Decides b a).0 f))) ∙ e in absurd cc
-    by _ e _ f = refl
+same_key a b = search rules
 
 -- an entry answers what its piece decides
 answers : (key p : List ℕ) (e : Entry) (o : Option (List ℕ)) → entry_of_piece (without_cr p) ≡ Some e → after_entry key (found_as o) e ≡ found_as (next decision ours key o p)
@@ -109,15 +101,7 @@ keys_of x = entry_keys (cut 10 x) ∙ line_keys (cut 10 x)
 
 -- a piece decides the key of its entry
 pub own_key : (p : List ℕ) (d : Decision) → decision p ≡ Some d → key_at p ≡ Some d.0
-own_key p d = by (entry_of_piece (without_cr p))
-  where
-    at : (e : Entry) (a : Option (Option Found)) → option_map (λ (x : Option Found). (e.key, is_some x)) a ≡ Some d → Some e.key ≡ Some d.0
-    at e None is = absurd cc
-    at e (Some f) is = ap (option_map (λ (c : Decision). c.0)) is
-
-    by : (o : Option Entry) → option_and_then decision_of o ≡ Some d → option_map (λ (e : Entry). e.key) o ≡ Some d.0
-    by None is = absurd cc
-    by (Some e) is = at e (answer_of e e.integrity) is
+own_key p d = search rules
 
 -- ---- what a listing looks up
 
@@ -134,11 +118,7 @@ module _ (item : List ℕ → Option Item) where
 
   -- a key that comes later too, or has no item, adds none
   adds_none : (k : List ℕ) (ks : List (List ℕ)) → item k ≡ None → items (k ∷ ks) ≡ items ks
-  adds_none k ks is = by (list_any (bytes_eq k) ks)
-    where
-      by : (b : Bool) → filter_map item (cond b (once ks) (k ∷ once ks)) ≡ items ks
-      by true = refl
-      by false = ap (λ o. cons_option o (items ks)) is
+  adds_none k ks is = search rules
 
   comes_again : (k : List ℕ) (ks : List (List ℕ)) → list_any (bytes_eq k) ks ≡ true → items (k ∷ ks) ≡ items ks
   comes_again k ks is = ap (λ (b : Bool). filter_map item (cond b (once ks) (k ∷ once ks))) is
@@ -148,12 +128,7 @@ module _ (item : List ℕ → Option Item) where
   Alike k ks ms = (list_any (bytes_eq k) ks ≡ list_any (bytes_eq k) ms) ⊎ (item k ≡ None)
 
   adds_alike : (k : List ℕ) (ks ms : List (List ℕ)) → Alike k ks ms → items ks ≡ items ms → items (k ∷ ks) ≡ items (k ∷ ms)
-  adds_alike k ks ms (inl same) rest = ap (λ (b : Bool). filter_map item (cond b (once ks) (k ∷ once ks))) same ∙ by (list_any (bytes_eq k) ms)
-    where
-      by : (b : Bool) → filter_map item (cond b (once ks) (k ∷ once ks)) ≡ filter_map item (cond b (once ms) (k ∷ once ms))
-      by true = rest
-      by false = ap (cons_option (item k)) rest
-  adds_alike k ks ms (inr none) rest = adds_none k ks none ∙ rest ∙ sym (adds_none k ms none)
+  adds_alike k ks ms h rest = grind (arith, adds_none)
 
   -- a key that lines decide is among theirs
   decided_keys : (k : List ℕ) (ls : List Line) → ArePieces ls → list_any (bytes_eq k) (decided ls) ≡ true → list_any (bytes_eq k) (keys ls) ≡ true

@@ -1,5 +1,5 @@
 -- What our own lookups and listings answer in compacted bytes.
-use Rattle.std.proofs.{Common.{◌≡◌, ℕ, suc, List, [], ◌∷◌, Bool, true, false, cond, not, ◌&&◌, ◌||◌, Option, Some, None, option_map, map, filter_map, length, refl, sym, ap, ◌∙◌, bytes_eq}, lemmas.Slice.Eq.{bytes_eq-Decides}}
+use Rattle.std.proofs.{Common.{rules, ◌≡◌, ℕ, suc, List, [], ◌∷◌, Bool, true, false, cond, not, ◌&&◌, ◌||◌, Option, Some, None, option_map, map, filter_map, length, refl, sym, ap, ◌∙◌, bytes_eq}, lemmas.Slice.Eq.{bytes_eq-Decides}}
 use Rattle.std.specs.{Prelude.{Ok, filter, is_some, option_and_then}, List.{cons_option, list_any}, Option.{option_flatten}}
 use Rattle.cacache_entry.specs.{Entry.{Entry}, Bucket.{without_cr, entry_of_piece, entries_of}, Latest.{Found, answer_of, latest}}
 use Rattle.cacache_calls.specs.{State.{Item}, Walking.{once, items_of, items_in}}
@@ -91,10 +91,4 @@ lean_bytes durable x none =
 -- each lookup and the listing of compacted bytes are those of the bytes
 pub compact_texts_answer : CompactTextsAnswer
 unfolding items_in
-compact_texts_answer durable x = record {
-  finds = finds_same durable x;
-  lists = lists_same durable x;
-  odd = ap (filter is_odd) (compact_lines durable x) ∙ kept_odd false (lines_of x);
-  once_each = ap (λ (ls : List Line). once (decided ls)) (compact_lines durable x) ∙ kept_once false (lines_of x) ∙ sym (ap decided (compact_lines durable x));
-  lean = lean_bytes durable x;
-}
+compact_texts_answer durable x = search (rules, finds, finds_same, lists_same, compact_lines, kept_odd, kept_once, lean_bytes)

@@ -1,5 +1,5 @@
 -- A second compaction, how compacted bytes end, and what readers find in them.
-use Rattle.std.proofs.{Common.{◌≡◌, List, ◌++◌, Bool, true, false, ◌||◌, refl, ap, ◌∙◌, ℕ, [], ◌∷◌, cond, not, ◌&&◌, Option, Some, None, fold, filter_map, sym, bytes_eq}, lemmas.{Slice.Eq.{bytes_eq-Decides}, Bool.{or_parts}}}
+use Rattle.std.proofs.{Common.{arith, rules, ◌≡◌, List, ◌++◌, Bool, true, false, ◌||◌, refl, ap, ◌∙◌, ℕ, [], ◌∷◌, cond, not, ◌&&◌, Option, Some, None, fold, filter_map, sym, bytes_eq}, lemmas.{Grind.{common_steps}, Slice.Eq.{bytes_eq-Decides}, Bool.{or_parts}}}
 use Rattle.std.specs.List.{cons_option, list_any}
 use Rattle.cacache_entry.specs.{Entry.{closing}, Bucket.{cut}}
 use Rattle.cacache_laws.specs.trees.Compacting.{CompactTextsClose, CompactTextsSettle, Line, compact_text, is_closed, kept, lines_of, text_of, CompactTextsKeepFound, Decision, Reader, ReadsLines, decided, decision, found_at, found_by, is_line, line_of_piece}
@@ -19,19 +19,14 @@ unfolding compact_text
 compact_closes durable x = closes (kept false (lines_of x)) (durable || is_closed x) (kept_are x)
 
 either_first : (a b c : Bool) → (a || (b || c)) ≡ ((a || b) || c)
-either_first true b c = refl
-either_first false b c = refl
+either_first a b c = grind (arith, common_steps)
 
 pub compact_twice : CompactTextsSettle
 unfolding compact_text
-compact_twice again durable x =
-    ap (λ (ls : List Line). text_of (kept false ls) ++ closing (again || is_closed (compact_text durable x))) (compact_lines durable x)
-    ∙ ap (λ (ls : List Line). text_of ls ++ closing (again || is_closed (compact_text durable x))) (kept_twice false (lines_of x))
-    ∙ ap (λ (b : Bool). text_of (kept false (lines_of x)) ++ closing b) (ap (λ (b : Bool). again || b) (compact_closes durable x) ∙ either_first again durable (is_closed x))
+compact_twice again durable x = search (rules, compact_lines, kept_twice, compact_closes, either_first)
 
 same_twice : (b : Bool) → (b || b) ≡ b
-same_twice true = refl
-same_twice false = refl
+same_twice b = grind (arith, common_steps)
 
 -- the same compaction again changes nothing
 pub compact_again : (durable : Bool) (x : List ℕ) → compact_text durable (compact_text durable x) ≡ compact_text durable x
@@ -68,9 +63,7 @@ module _ (read : Reader) (h : ReadsLines read) (key : List ℕ) where
 
   -- so do the pieces of a text of lines
   pub in_text : (ls : List Line) (closed : Bool) → ArePieces ls → found_by read key (text_of ls ++ closing closed) ≡ after None (texts ls)
-  in_text ls closed are =
-      ap (after None) (pieces_of_text ls closed are) ∙ ap (λ (f : Option (List ℕ)). after f (texts ls ++ after_closing closed)) (unread None [] nothing_is_none)
-      ∙ with_closing ls closed None
+  in_text ls closed are = search (rules, pieces_of_text, texts, after_closing, unread, nothing_is_none, with_closing)
 
   pub in_bytes : (x : List ℕ) → found_by read key x ≡ after None (texts (lines_of x))
   in_bytes x = among_lines (cut 10 x) None
@@ -125,6 +118,4 @@ module _ (read : Reader) (h : ReadsLines read) (key : List ℕ) where
 -- each reader finds in compacted bytes what it finds in the bytes
 pub compact_texts_keep_found : CompactTextsKeepFound
 unfolding compact_text
-compact_texts_keep_found read durable x key h =
-    in_text read h key (kept false (lines_of x)) (durable || is_closed x) (kept_are x)
-    ∙ found_kept read h key false (lines_of x) None None (pieces_are x) (λ no. refl) (λ yes no. refl) ∙ sym (in_bytes read h key x)
+compact_texts_keep_found read durable x key h = search (rules, in_text, kept_are, found_kept, pieces_are, in_bytes)

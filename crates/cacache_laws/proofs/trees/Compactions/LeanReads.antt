@@ -1,5 +1,5 @@
 -- Two trees whose nodes differ in bytes of files alone list and read alike.
-use Rattle.std.proofs.{Common.{◌≡◌, Bool, true, false, cond, List, [], ◌∷◌, Option, None, Some, length, option_map, refl, sym, ap, ap₂, subst, ◌∙◌, ◌⊎◌, inl, inr, ℕ, zero, suc, ◌++◌, Result, Ok, Err, get_or, append_assoc, bytes_eq}, lemmas.List.{append_cancel_left}}
+use Rattle.std.proofs.{Common.{arith, rules, ◌≡◌, Bool, true, false, cond, List, [], ◌∷◌, Option, None, Some, length, option_map, refl, sym, ap, ap₂, subst, ◌∙◌, ◌⊎◌, inl, inr, ℕ, zero, suc, ◌++◌, Result, Ok, Err, get_or, append_assoc, bytes_eq}, lemmas.{Grind.{common_steps}, List.{append_cancel_left}}}
 use Rattle.std.specs.{Prelude.{T, ◌&&◌, filter_map, map as each, slice_index_or}, List.{cons_option}, declared.cmp.Ordering.TheVariants.{Equal}, Ordering.{is_lt}, FinMap.Entries.{below_all, where_key, is_sorted-where_key, find-where_key, same_entries}}
 use Rattle.cacache_core.specs.{PathNames.{Names, names_of}, declared.errors.Fault.{Fault, TheVariants.{IsADirectory, TooDeep}}}
 use Rattle.cacache_store.specs.declared.store.{answer.Kind.{Kind}, step.Step.TheVariants.{ReadDir}}
@@ -24,8 +24,7 @@ shape (Some (File bytes)) = Some (File [])
 shape (Some (Link target)) = Some (Link target)
 
 shape_is : (o : Option Node) → option_map bare_node o ≡ shape o
-shape_is (Some Folder) = refl
-shape_is o = refl
+shape_is o = grind (arith, common_steps)
 
 -- ---- entries
 
@@ -33,8 +32,7 @@ abbrev shaped : List (Names × Node) → List (Names × Node)
 shaped es = each (λ e. (e.0, bare_node e.1)) es
 
 find_at : (b : Bool) (node : Node) (o p : Option Node) → p ≡ option_map bare_node o → cond b (Some (bare_node node)) p ≡ option_map bare_node (cond b (Some node) o)
-find_at true node o p e = refl
-find_at false node o p e = e
+find_at b node o p e = grind (arith, common_steps)
 
 find_shaped : (q : Names) (es : List (Names × Node)) → map.find names_cmp q (shaped es) ≡ option_map bare_node (map.find names_cmp q es)
 find_shaped q [] = refl
@@ -49,8 +47,7 @@ sorted_shaped [] = refl
 sorted_shaped (e ∷ es) = ap₂ (λ (a b : Bool). a && b) (below_shaped e.0 es) (sorted_shaped es)
 
 kind_bare : (node : Node) → kind_of (bare_node node) ≡ kind_of node
-kind_bare Folder = refl
-kind_bare node = refl
+kind_bare node = grind (arith, common_steps)
 
 child_shaped : (p q : Names) (node : Node) → child_of p (q, bare_node node) ≡ child_of p (q, node)
 child_shaped p q node = ap (λ (k : Kind). cond (is_child p q) (Some (record { name = slice_index_or q (length p) []; kind = k })) None) (kind_bare node)
@@ -79,16 +76,13 @@ shaped_listing t new p same =
 -- ---- what one shape shows
 
 through_of : (here : Option Node) (later : Option Fault) → through here later ≡ through (shape here) later
-through_of (Some Folder) later = refl
-through_of here later = refl
+through_of here later = grind (arith, common_steps)
 
 folder_of : (here : Option Node) (names : Names) → where_folder here names ≡ where_folder (shape here) names
-folder_of (Some Folder) names = refl
-folder_of here names = refl
+folder_of here names = grind (arith, common_steps)
 
 link_of : (here : Option Node) (names : Names) (go : List ℕ → Result Names Fault) → on_link here names go ≡ on_link (shape here) names go
-link_of (Some Folder) names go = refl
-link_of here names go = refl
+link_of here names go = grind (arith, common_steps)
 
 -- two that have one shape
 through_same : (a b : Option Node) (later : Option Fault) → shape a ≡ shape b → through a later ≡ through b later
@@ -101,8 +95,7 @@ link_same : (a b : Option Node) (names : Names) (go : List ℕ → Result Names 
 link_same a b names go e = link_of a names go ∙ ap (λ o. on_link o names go) e ∙ sym (link_of b names go)
 
 next_same : {A B : Type 0} (r : Result A Fault) (f g : A → Result B Fault) → ((m : A) → r ≡ Ok m → f m ≡ g m) → and_then r f ≡ and_then r g
-next_same (Ok m) f g h = h m refl
-next_same (Err fault) f g h = refl
+next_same r f g h = grind (arith, common_steps)
 
 -- ---- an area of the cache's folder, and what lies in it
 
@@ -160,8 +153,7 @@ placed_names t path names m named e = let both : Ok m ≡ Ok names = sym (place_
 
 module _ (home : Names) (t new : Tree) (Lean : Names → List ℕ → List ℕ → Type 0) (IsEnd : Names → Type 0) (s : Sees home t new Lean IsEnd) where
   shape_at : (q : Names) → SameOrLean Lean t new q → shape (look new q) ≡ shape (look t q)
-  shape_at q (inl same) = ap shape same
-  shape_at q (inr lean) = ap shape lean.4 ∙ sym (ap shape lean.3)
+  shape_at q h = grind (arith, common_steps)
 
   way_same : (p rest : Names) → IsEnd (p ++ rest) → way_fault new p rest ≡ way_fault t p rest
   way_same p (name ∷ next ∷ rest) is =
@@ -201,24 +193,13 @@ module _ (home : Names) (t new : Tree) (Lean : Names → List ℕ → List ℕ �
 
   standing_same : (target : List ℕ) (r : Result Names Fault) → names_of target ≡ r → IsFor (Some home) Elsewhere target → standing new target ≡ standing t target
   unfolding standing place
-  standing_same target (Err fault) named leads_out = rw named refl
-  standing_same target (Ok names) named leads_out =
-      let k = of_names (λ n. path_kind (Some home) n ≡ Elsewhere) target names leads_out named in
-      rw named
-      (ap (λ o. and_then (or_fault o names) (λ n. where_there (look new n) n)) (way_same [] names (s.out_end names k))
-      ∙ judged (way_fault t [] names) names (ap (λ h. where_there h names) (s.at_out names k)))
-    where
-      judged : (o : Option Fault) (names : Names) → where_there (look new names) names ≡ where_there (look t names) names
-          → and_then (or_fault o names) (λ n. where_there (look new n) n) ≡ and_then (or_fault o names) (λ n. where_there (look t n) n)
-      judged None names e = e
-      judged (Some fault) names e = refl
+  standing_same target r named leads_out = grind (arith, of_names, way_same)
 
   standing_out : (target : List ℕ) (names : Names) → IsFor (Some home) Elsewhere target → standing t target ≡ Ok names → path_kind (Some home) names ≡ Elsewhere
   standing_out target names leads_out e = of_names (λ n. path_kind (Some home) n ≡ Elsewhere) target names leads_out (standing_ok t target names e)
 
   link_on : (here : Option Node) (names : Names) (f g : List ℕ → Result Names Fault) → ((target : List ℕ) → here ≡ Some (Link target) → f target ≡ g target) → on_link here names f ≡ on_link here names g
-  link_on (Some (Link target)) names f g h = h target refl
-  link_on here names f g h = refl
+  link_on here names f g h = grind (arith, common_steps)
 
   followed_same : (n : ℕ) (names : Names) → SameOrLean Lean t new names → followed n new names ≡ followed n t names
   unfolding followed
@@ -232,8 +213,7 @@ module _ (home : Names) (t new : Tree) (Lean : Names → List ℕ → List ℕ �
       ∙ next_same (standing t target) (followed n new) (followed n t) (λ m e. followed_same n m (inl (s.at_out m (standing_out target m leads_out e)))))
 
   end_at : (here : Option Node) (names m : Names) (go : List ℕ → Result Names Fault) → ((target : List ℕ) → here ≡ Some (Link target) → go target ≡ Ok m → path_kind (Some home) m ≡ Elsewhere) → on_link here names go ≡ Ok m → (m ≡ names) ⊎ (path_kind (Some home) m ≡ Elsewhere)
-  end_at (Some (Link target)) names m go h e = inr (h target refl e)
-  end_at here names m go h e = inl (let k : names ≡ m = cc in sym k)
+  end_at here names m go h e = grind (arith, common_steps)
 
   followed_end : (n : ℕ) (names m : Names) → followed n t names ≡ Ok m → (m ≡ names) ⊎ (path_kind (Some home) m ≡ Elsewhere)
   unfolding followed
@@ -249,9 +229,7 @@ module _ (home : Names) (t new : Tree) (Lean : Names → List ℕ → List ℕ �
   -- where such a path leads
   leads_same : (path : List ℕ) (names : Names) → names_of path ≡ Ok names → IsEnd names → SameOrLean Lean t new names → leads new path ≡ leads t path
   unfolding leads
-  leads_same path names named is here =
-      ap (λ r. and_then r (followed 16 new)) (place_same path names named is)
-      ∙ next_same (place t path) (followed 16 new) (followed 16 t) (λ m e. followed_same 16 m (subst (SameOrLean Lean t new) (sym (placed_names t path names m named e)) here))
+  leads_same path names named is here = search (rules, place_same, next_same, followed_same, placed_names)
 
   leads_end : (path : List ℕ) (names m : Names) → names_of path ≡ Ok names → leads t path ≡ Ok m → (m ≡ names) ⊎ (path_kind (Some home) m ≡ Elsewhere)
   unfolding leads
@@ -264,17 +242,14 @@ module _ (home : Names) (t new : Tree) (Lean : Names → List ℕ → List ℕ �
   Alike names now old = (now ≡ old) ⊎ ((x : List ℕ) × (y : List ℕ) × Lean names x y × (old ≡ Ok x) × (now ≡ Ok y))
 
   node_read : (names : Names) → SameOrLean Lean t new names → Alike names (bytes_there IsADirectory (look new names)) (bytes_there IsADirectory (look t names))
-  node_read names (inl same) = inl (ap (bytes_there IsADirectory) same)
-  node_read names (inr lean) = inr (lean.0, lean.1, lean.2, ap (bytes_there IsADirectory) lean.3, ap (bytes_there IsADirectory) lean.4)
+  node_read names h = grind (arith, common_steps)
 
   end_read : (names m : Names) → SameOrLean Lean t new names → (m ≡ names) ⊎ (path_kind (Some home) m ≡ Elsewhere) → Alike names (bytes_there IsADirectory (look new m)) (bytes_there IsADirectory (look t m))
-  end_read names m here (inl same) = subst (λ q. Alike names (bytes_there IsADirectory (look new q)) (bytes_there IsADirectory (look t q))) (sym same) (node_read names here)
-  end_read names m here (inr there) = inl (ap (bytes_there IsADirectory) (s.at_out m there))
+  end_read names m here h = grind (arith, node_read)
 
   led_read : (names : Names) (r : Result Names Fault) → ((m : Names) → r ≡ Ok m → Alike names (bytes_there IsADirectory (look new m)) (bytes_there IsADirectory (look t m)))
       → Alike names (and_then r (λ n. bytes_there IsADirectory (look new n))) (and_then r (λ n. bytes_there IsADirectory (look t n)))
-  led_read names (Ok m) h = h m refl
-  led_read names (Err fault) h = inl refl
+  led_read names r h = grind (arith, common_steps)
 
   pub file_alike : (path : List ℕ) (names : Names) → names_of path ≡ Ok names → IsEnd names → SameOrLean Lean t new names → Alike names (file_at new path IsADirectory) (file_at t path IsADirectory)
   unfolding file_at

@@ -1,6 +1,6 @@
 -- Compactions of trees, one after another, and what is found after them.
 -- Lookups, reads by key and listings answer after a compaction what they may answer before it.
-use Rattle.std.proofs.Common.{◌≡◌, ◌⊎◌, inl, inr, ℕ, List, [], ◌∷◌, ◌++◌, Bool, Option, None, Some, refl, sym, ap, subst, ◌∙◌, Ok, append_assoc, arith}
+use Rattle.std.proofs.{lemmas.Grind.{common_steps}, Common.{rules, ◌≡◌, ◌⊎◌, inl, inr, ℕ, List, [], ◌∷◌, ◌++◌, Bool, Option, None, Some, refl, sym, ap, subst, ◌∙◌, Ok, append_assoc, arith}}
 use Rattle.sha1.specs.Sha1.{sha1}
 use Rattle.cacache_core.specs.{PathNames.{Names, names_of, home_of}, Paths.{bucket_names_of, content_names, temp_area, joined, content_area, index_area}, declared.integrity.digest.Hash.{Hash}, Integrity.{IsIntegrity}}
 use Rattle.cacache_core.proofs.{JoinedNames.{joined_texts_name}, ProperNames.{names_are_proper}}
@@ -22,9 +22,7 @@ abbrev pub EndsUp : Bool → Names → Names → Option Node → Option Node →
 EndsUp durable home q old new = (new ≡ old) ⊎ (IsCompacted durable home q old new ⊎ (IsTempFolder home q old new ⊎ IsLeftOver home q old new))
 
 pub ends : (durable : Bool) (home q : Names) (old new : Option Node) → Becomes durable home q old new → EndsUp durable home q old new
-ends durable home q old new (inl same) = inl same
-ends durable home q old new (inr (inl lean)) = inr (inl lean)
-ends durable home q old new (inr (inr made)) = inr (inr (inl made))
+ends durable home q old new h = grind (arith, common_steps)
 
 pub same_bytes : (x y : List ℕ) (here : Option Node) → here ≡ Some (File x) → here ≡ Some (File y) → x ≡ y
 same_bytes x y here e f = let both : Some (File x) ≡ Some (File y) = sym e ∙ f in cc
@@ -82,17 +80,11 @@ key_at : (durable : Bool) (key : List ℕ) (home q : Names) (old new : Option No
 key_at durable key home q old new (inl same) = ap (λ o. latest key (list_of (bucket_in o))) same
 key_at durable key home q old new (inr (inl lean)) =
     ap (λ o. latest key (list_of (bucket_in o))) lean.3 ∙ (compact_texts_answer durable lean.1).finds key ∙ sym (ap (λ o. latest key (list_of (bucket_in o))) lean.2)
-key_at durable key home q old new (inr (inr (inl made))) =
-    ap (λ o. latest key (list_of (bucket_in o))) made.2 ∙ sym (ap (λ o. latest key (list_of (bucket_in o))) made.1)
-key_at durable key home q old new (inr (inr (inr left))) =
-    ap (λ o. latest key (list_of (bucket_in o))) left.4 ∙ ap (latest key) empty_holds_nothing ∙ sym (ap (λ o. latest key (list_of (bucket_in o))) left.3)
+key_at durable key home q old new (inr (inr (inl made))) = search rules
+key_at durable key home q old new (inr (inr (inr left))) = search (rules, empty_holds_nothing)
 
 content_at : (durable : Bool) (home q : Names) (old new : Option Node) → path_kind (Some home) q ≡ Content → EndsUp durable home q old new → blob_in new ≡ blob_in old
-content_at durable home q old new k (inl same) = ap blob_in same
-content_at durable home q old new k (inr (inl lean)) = absurd (let wrong : Content ≡ Bucket = sym k ∙ lean.0 in cc)
-content_at durable home q old new k (inr (inr (inl made))) = ap blob_in made.2 ∙ sym (ap blob_in made.1)
-content_at durable home q old new k (inr (inr (inr left))) =
-    absurd (let wrong : Content ≡ Temporary = sym k ∙ ap (path_kind (Some home)) left.1 ∙ kind-below home (temp_area ∷ left.0 ∷ []) in cc)
+content_at durable home q old new k h = grind (arith, kind-below)
 
 pub compactions_keep : CompactionsKeep
 compactions_keep durable home t new is = record {

@@ -1,5 +1,5 @@
 -- What a call leaves of a key that it spares, on a store that stands.
-use Rattle.std.proofs.{Common.{◌≡◌, ◌⊎◌, inl, inr, ℕ, true, false, List, [], ◌∷◌, Option, None, Some, Result, Ok, refl, sym, ap, subst, ◌∙◌, arith}, lemmas.List.Elements.{All-head}}
+use Rattle.std.proofs.{lemmas.{Grind.{common_steps}, List.Elements.{All-head}}, Common.{rules, ◌≡◌, ◌⊎◌, inl, inr, ℕ, true, false, List, [], ◌∷◌, Option, None, Some, Result, Ok, refl, sym, ap, subst, ◌∙◌, arith}}
 use Rattle.std.specs.List.{AllByRecursion}
 use Rattle.sha1.specs.Sha1.{sha1}
 use Rattle.cacache_core.specs.{declared.{errors.Fault.{Fault}, integrity.digest.Hash.{Hash}}, Integrity.{IsHash, IsIntegrity, address}, PathNames.{Names, home_of}}
@@ -129,36 +129,18 @@ module _ (cache key : List ℕ) (i : List Hash) where
   known_left text old new standing known = record { standing = standing; finds = known.finds key; leads = λ held has. inl (known.key key held i has) }
 
   others_left : (text : Option (List ℕ)) (other : List ℕ) (old new : List LogItem) → (other ≡ key → ⊥) → IsStanding cache new → KeepsOthers cache other old new → Left text old new
-  others_left text other old new differ standing keeps = record {
-    standing = standing;
-    finds = keeps.finds key (λ e. differ (sym e));
-    leads = λ held has. inl (keeps.key key held i (λ e. differ (sym e)) has);
-  }
+  others_left text other old new differ standing keeps = search (rules, leads)
 
   pub beside_left : (o : Option (List ℕ)) (own : List Hash) (added : List ℕ) (old new : List LogItem) → IsOther o key → IsStanding cache new → KeepsBeside cache o own added old new → Left (Some added) old new
-  beside_left o own added old new other standing keeps = record {
-    standing = standing;
-    finds = keeps.finds key other;
-    leads = λ held has. elim (keeps.key key held i other has) [ inl still ↦ inl still | inr at ↦ inr (added, refl, at.1) ];
-  }
+  beside_left o own added old new other standing keeps = search (rules, leads)
 
   -- where the bucket and the content are the same
   same_left : (text : Option (List ℕ)) (old new : List LogItem) → IsStanding cache new → found_under cache key new ≡ found_under cache key old → lies_under cache i new ≡ lies_under cache i old → Left text old new
-  same_left text old new standing finds lies = record {
-    standing = standing;
-    finds = finds;
-    leads = λ held has. inl (record {
-      found = has.found;
-      finds = finds ∙ has.finds;
-      integrity = has.integrity;
-      content = record { content = lies ∙ has.content.content; formed = has.content.formed; meets = has.content.meets };
-    });
-  }
+  same_left text old new standing finds lies = search (rules, leads)
 
   -- a key that isn't the written one
   pub other_of : (o : Option (List ℕ)) → (o ≡ Some key → ⊥) → IsOther o key
-  other_of None differ = tt
-  other_of (Some other) differ = λ e. differ (ap Some (sym e))
+  other_of o differ = grind (arith, common_steps)
 
 -- ---- calls
 

@@ -1,5 +1,5 @@
 -- What a writer's commit leaves of a key that it spares, on a store that stands.
-use Rattle.std.proofs.Common.{◌≡◌, ℕ, List, [], ◌∷◌, ◌++◌, Some, refl, sym, ap, subst, ◌∙◌, append-nil}
+use Rattle.std.proofs.Common.{rules, ◌≡◌, ℕ, List, [], ◌∷◌, ◌++◌, Some, refl, sym, ap, subst, ◌∙◌, append-nil}
 use Rattle.cacache_core.specs.{declared.integrity.digest.Hash.{Hash}, PathNames.{home_of}}
 use Rattle.cacache_store.specs.declared.store.answer.Answer.TheVariants as answers
 use Rattle.cacache_store.specs.declared.store.log.LogItem.{LogItem}
@@ -50,9 +50,7 @@ module _ (cache : List ℕ) (p : Put) (number : ℕ) (fits : FitsEntry cache p) 
   goes = went s tt number (commands.Put p) t (persist (put_commit cache p) c.file) c.ran.0 r standing.rooted holds.sound holds.carries c.ran.1 leads.0
 
   run : Runs begins (made_in (before ++ turns)) r
-  run =
-      subst (λ (moves : Moves). Runs begins moves r) (sym (made_more before turns ∙ ap (λ (moves : Moves). made_in before ++ moves) (turns_made t c.ran.0)))
-      (goes_runs begins (persist (put_commit cache p) c.file) (made_in before) c.ran.0 r holds.goes c.ran.1)
+  run = search (rules, made_more, turns_made, goes_runs, holds)
 
   -- only the commit itself did something to contents or buckets
   silent : deeds (before ++ turns) ≡ deeds turns

@@ -1,5 +1,5 @@
 -- Where a key leads after later calls that spare it, on a store that stands.
-use Rattle.std.proofs.Common.{◌≡◌, inl, inr, ℕ, List, [], ◌∷◌, Option, None, Some, Result, arith, filter_map, refl, sym, ap, subst, ◌∙◌}
+use Rattle.std.proofs.Common.{rules, ◌≡◌, inl, inr, ℕ, List, [], ◌∷◌, Option, None, Some, Result, arith, filter_map, refl, sym, ap, subst, ◌∙◌}
 use Rattle.std.specs.{Prelude.{Contains}, List.{cons_option}}
 use Rattle.cacache_core.specs.{declared.{errors.Error.{Error, TheVariants.{OutOfMemory}}, integrity.digest.Hash.{Hash}}, PathNames.{home_of}}
 use Rattle.cacache_store.specs.declared.store.{log.LogItem.{LogItem}, plain.PlainTemp.{PlainTemp}}
@@ -19,8 +19,7 @@ tree_stands : (cache : List ℕ) (old new : List LogItem) → tree_of new ≡ tr
 tree_stands cache old new same standing = record { placed = subst (Placed (home_of cache)) (sym same) standing.placed; rooted = subst Rooted (sym same) standing.rooted }
 
 tree_left : (cache key : List ℕ) (i : List Hash) (old new : List LogItem) → tree_of new ≡ tree_of old → IsStanding cache old → Left cache key i None old new
-tree_left cache key i old new same standing =
-    known_left cache key i None old new (tree_stands cache old new same standing) (same_stays_known cache old new (ap (value_of_tree (home_of cache)) same))
+tree_left cache key i old new same standing = search (rules, known_left, tree_stands, same_stays_known)
 
 -- ---- a writer's opening
 
@@ -62,8 +61,7 @@ more_texts None t ts c = c
 more_texts (Some u) t ts c = contains_member t (u ∷ ts) (inr (member_contains t ts c))
 
 pub first_text : (o : Option (List ℕ)) (t : List ℕ) (ts : List (List ℕ)) → o ≡ Some t → Contains (cons_option o ts) t
-first_text None t ts e = absurd (let wrong : None ≡ Some t = e in cc)
-first_text (Some u) t ts e = contains_member t (u ∷ ts) (inl (let same : Some u ≡ Some t = e in cc))
+first_text o t ts e = grind (arith, contains_member)
 
 module _ (cache key : List ℕ) (i : List Hash) where
   one_left : (e : Later) (bytes : List ℕ) (old new : List LogItem) → IsLog new → IsStanding cache old → HasKey cache key i bytes old → Spares cache key i e old new → Left cache key i (written e) old new
@@ -80,28 +78,11 @@ module _ (cache key : List ℕ) (i : List Hash) where
   -- after a call that kept the bytes, and after one that wrote others
   kept_then : (e : Later) (later : List Later) (bytes : List ℕ) (old next new : List LogItem) → found_under cache key next ≡ found_under cache key old
       → StaysRead cache key i bytes (filter_map written later) next new → StaysRead cache key i bytes (filter_map written (e ∷ later)) old new
-  kept_then e later bytes old next new finds s = record {
-    standing = s.standing;
-    finds = s.finds ∙ finds;
-    held = s.held;
-    which = elim s.which [ inl same ↦ inl same | inr c ↦ inr (more_texts (written e) s.held (filter_map written later) c) ];
-    has = s.has;
-    reads = s.reads;
-  }
+  kept_then e later bytes old next new finds s = search (rules, more_texts)
 
   wrote_then : (e : Later) (later : List Later) (bytes text : List ℕ) (old next new : List LogItem) → found_under cache key next ≡ found_under cache key old → written e ≡ Some text
       → StaysRead cache key i text (filter_map written later) next new → StaysRead cache key i bytes (filter_map written (e ∷ later)) old new
-  wrote_then e later bytes text old next new finds wrote s = record {
-    standing = s.standing;
-    finds = s.finds ∙ finds;
-    held = s.held;
-    which = elim s.which [
-      | inl same ↦ inr (first_text (written e) s.held (filter_map written later) (wrote ∙ ap Some (sym same)))
-      | inr c ↦ inr (more_texts (written e) s.held (filter_map written later) c)
-    ];
-    has = s.has;
-    reads = s.reads;
-  }
+  wrote_then e later bytes text old next new finds wrote s = search (rules, first_text, more_texts)
 
   all_left : (later : List Later) (bytes : List ℕ) (old new : List LogItem) → IsStanding cache old → HasKey cache key i bytes old → AllSpare cache key i later old new
       → StaysRead cache key i bytes (filter_map written later) old new

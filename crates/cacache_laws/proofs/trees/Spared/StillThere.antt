@@ -1,5 +1,5 @@
 -- If what is apart from the cache stays, links of contents lead where they led.
-use Rattle.std.proofs.{Common.{◌≡◌, ◌⊎◌, inl, inr, ℕ, zero, suc, List, [], ◌∷◌, ◌++◌, Option, Some, None, Bool, true, false, cond, Result, Ok, Err, refl, sym, ap, subst, ◌∙◌, append_assoc, bytes_eq, arith}, lemmas.List.Elements.{All-head}}
+use Rattle.std.proofs.{lemmas.{Grind.{common_steps}, List.Elements.{All-head}}, Common.{◌≡◌, ◌⊎◌, inl, inr, ℕ, zero, suc, List, [], ◌∷◌, ◌++◌, Option, Some, None, Bool, true, false, cond, Result, Ok, Err, refl, sym, ap, subst, ◌∙◌, append_assoc, bytes_eq, arith}}
 use Rattle.cacache_core.specs.{declared.{errors.Fault.{Fault, TheVariants.{IsADirectory, NotFound, TooDeep}}, integrity.digest.Hash.{Hash}}, Integrity.{IsHash, IsIntegrity}, PathNames.{Names, names_of, home_of}, Paths.{content_names}}
 use Rattle.cacache_store.specs.{declared.store.{step.Step.TheVariants.{Exists}, answer.Answer.TheVariants.{There}}, Plain.{PlainAnswer}}
 use Rattle.cacache_disk.specs.{declared.{luck.Luck.TheVariants.{Plain}, node.Node.{Node, TheVariants.{Folder, File, Link}}}, Tree.{Tree, look}, LedTo.{and_then, or_fault, way_fault, place, standing, where_there, on_link, followed, leads, found, bytes_there}, Apply.{apply, is_there}, Rooted.{Rooted}}
@@ -14,8 +14,7 @@ use Rattle.cacache_laws.proofs.trees.Within.{file_there, something_there, throug
 -- ---- above a path that is apart from the cache
 
 upper_at : (b : Bool) (k l : PathKind) → (k ≡ Elsewhere → (l ≡ Elsewhere) ⊎ (l ≡ Way)) → cond b k Elsewhere ≡ Elsewhere → (cond b l Elsewhere ≡ Elsewhere) ⊎ (cond b l Elsewhere ≡ Way)
-upper_at true k l h e = h e
-upper_at false k l h e = inl refl
+upper_at b k l h e = grind (arith, common_steps)
 
 upper : (home p rest : Names) → kind_beside home (p ++ rest) ≡ Elsewhere → (kind_beside home p ≡ Elsewhere) ⊎ (kind_beside home p ≡ Way)
 upper [] p rest e = absurd (inner_used (p ++ rest) e)
@@ -30,8 +29,7 @@ LeadsOut home (Some (AtLink target)) = IsFor (Some home) Elsewhere target
 LeadsOut home other = Unit {0}
 
 out_at : (home : Names) (here : Option Node) → MayStand (Some home) here Content → LeadsOut home (blob_in here)
-out_at home (Some (Link target)) s = s
-out_at home here s = tt
+out_at home here s = grind (arith, common_steps)
 
 content_out : (home : Names) (t : Tree) (h : Hash) → Placed (Some home) t → LeadsOut home (content_in home t h)
 content_out home t h placed =
@@ -39,25 +37,17 @@ content_out home t h placed =
     out_at home (look t (home ++ content_names h)) (subst (MayStand (Some home) (look t (home ++ content_names h))) kind (placed (home ++ content_names h)))
 
 found_names : (r : Result Names Fault) → is_there r ≡ There true → (m : Names) × (r ≡ Ok m)
-found_names (Ok m) e = (m, refl)
-found_names (Err NotFound) e = absurd cc
-found_names r e = absurd cc
+found_names r e = grind (arith, common_steps)
 
 some_there : (t : Tree) (blob : Option Blob) → blob_there t blob ≡ There true → (b : Blob) × (blob ≡ Some b)
-some_there t None e = absurd cc
-some_there t (Some b) e = (b, refl)
+some_there t blob e = grind (arith, common_steps)
 
 bytes_met : (i : List Hash) (r : Result (List ℕ) Fault) → is_met i r ≡ true → (bytes : List ℕ) × (r ≡ Ok bytes)
-bytes_met i (Ok bytes) e = (bytes, refl)
-bytes_met i (Err fault) e = absurd cc
+bytes_met i r e = grind (arith, common_steps)
 
 -- what has bytes is there
 bytes_are_there : (t : Tree) (blob : Option Blob) (bytes : List ℕ) → blob_bytes t blob ≡ Ok bytes → blob_there t blob ≡ There true
-bytes_are_there t None bytes e = absurd cc
-bytes_are_there t (Some (InFile b)) bytes e = refl
-bytes_are_there t (Some (AtLink target)) bytes e =
-    let f = and_then_ok (link_end t target) (λ names. bytes_there IsADirectory (look t names)) bytes e in
-    rw (f.1, file_there (look t f.0) bytes f.2) refl
+bytes_are_there t blob bytes e = grind (arith, and_then_ok, file_there)
 
 -- ---- the question for a content that is there
 
@@ -68,8 +58,7 @@ leaf_there t path names (Some (Link target)) b rooted is there e = rw (is, way_c
 leaf_there t path names here b rooted is there e = absurd cc
 
 said_yes : (x a : PlainAnswer) → says_yes a ≡ true → ShowsThere x a → x ≡ There true
-said_yes x (There b) e h = h ∙ ap There e
-said_yes x other e h = absurd cc
+said_yes x a e h = grind (arith, common_steps)
 
 module _ (cache : List ℕ) (home : Names) (is : home_of cache ≡ Some home) where
   below : (h : Hash) (hs : List Hash) → IsHash h → names_of (content_path cache (h ∷ hs)) ≡ Ok (home ++ content_names h)

@@ -1,5 +1,5 @@
 -- Reads on two trees that agree on all but contents.
-use Rattle.std.proofs.Common.{◌≡◌, ◌⊎◌, inl, inr, ℕ, List, [], ◌∷◌, ◌++◌, Some, Bool, true, false, cond, Result, Ok, Err, refl, sym, ap, ◌∙◌, bytes_eq}
+use Rattle.std.proofs.{Common.{arith, rules, ◌≡◌, ◌⊎◌, inl, inr, ℕ, List, [], ◌∷◌, ◌++◌, Some, Bool, true, false, cond, Result, Ok, Err, refl, sym, ap, ◌∙◌, bytes_eq}, lemmas.Grind.{common_steps}}
 use Rattle.cacache_core.specs.{declared.errors.Fault.{Fault, TheVariants.{IsADirectory}}, PathNames.{Names, names_of}}
 use Rattle.cacache_store.specs.{declared.store.{step.Step.TheVariants.{ReadAll}, answer.Answer.TheVariants.{Bytes, Failed}}, Plain.{PlainAnswer}}
 use Rattle.cacache_disk.specs.{declared.luck.Luck.TheVariants.{Plain}, Tree.{Tree, look}, LedTo.{file_at}, Apply.{apply, unless}}
@@ -9,8 +9,7 @@ use Rattle.cacache_laws.{specs.trees.Collecting.{LinksLeadOut}, proofs.trees.Com
 -- ---- no content lies above what the cache uses, nor above what is apart from it
 
 beside_at : (b : Bool) (old new : PathKind) → (old ≡ Content → new ≡ Elsewhere → ⊥) → cond b old Elsewhere ≡ Content → cond b new Elsewhere ≡ Elsewhere → ⊥
-beside_at true old new apart c e = apart c e
-beside_at false old new apart c e = cc
+beside_at b old new apart c e = grind (arith, common_steps)
 
 below_content : (home p rest : Names) → kind_beside home p ≡ Content → kind_beside home (p ++ rest) ≡ Elsewhere → ⊥
 below_content [] p rest c e = inner_used (p ++ rest) e
@@ -31,19 +30,13 @@ said (Ok bytes) = Bytes bytes
 said (Err fault) = Failed fault
 
 pub answer_of : (r : Result (List ℕ) Fault) (x : Tree) → (unless r x (λ b. (Bytes b, x))).0 ≡ said r
-answer_of (Ok bytes) x = refl
-answer_of (Err fault) x = refl
+answer_of r x = grind (arith, common_steps)
 
 -- ---- trees that agree on all but contents
 
 module _ (home : Names) (t new : Tree) (same : (names : Names) → (path_kind (Some home) names ≡ Content → ⊥) → look new names ≡ look t names) (out : LinksLeadOut home t) where
   sees : Sees home t new NoneLean (λ q. Safe (path_kind (Some home) q))
-  sees = record {
-    upper = λ p rest name safe. inl (same p (upper_not home p rest name safe));
-    out_end = λ q k. inr k;
-    at_out = λ q k. same q (λ c. let wrong : Elsewhere ≡ Content = sym k ∙ c in cc);
-    links = out;
-  }
+  sees = search (rules, upper_not)
 
   -- a read of such a path has the same answer
   pub read_same : (path : List ℕ) (names : Names) → names_of path ≡ Ok names → Safe (path_kind (Some home) names) → look new names ≡ look t names → (apply new (ReadAll path) Plain).0 ≡ (apply t (ReadAll path) Plain).0

@@ -1,6 +1,6 @@
 -- A clearing of both trees, one of which lacks idle contents.
 -- A removal that is made on two logs.
-use Rattle.std.proofs.Common.{◌≡◌, ◌⊎◌, inl, inr, ◌-◌, ℕ, suc, Bool, true, false, cond, nat_le, List, [], ◌∷◌, ◌++◌, None, Some, Result, Ok, Err, length, refl, sym, ap, subst, ◌∙◌, arith, append-nil}
+use Rattle.std.proofs.{lemmas.Grind.{common_steps}, Common.{rules, ◌≡◌, ◌⊎◌, inl, inr, ◌-◌, ℕ, suc, Bool, true, false, cond, nat_le, List, [], ◌∷◌, ◌++◌, None, Some, Result, Ok, Err, length, refl, sym, ap, subst, ◌∙◌, arith, append-nil}}
 use Rattle.std.specs.Prelude.{bytes_eq}
 use Rattle.cacache_core.specs.{declared.errors.{Fault.{Fault}, Error.TheVariants.{IoError}}, Paths.{join, content_area, index_area, temp_area}, PathNames.{Names, names_of, home_of}}
 use Rattle.cacache_store.specs.declared.store.{answer.{Kind.{Kind}, Name.{Name}}, log.LogItem.{LogItem}}
@@ -53,12 +53,10 @@ module _ (r : Reply) (whole : BreaksOff commands.Clear r → ⊥) where
 
   top_name : (k : Kind) (node : Node) (path : List ℕ) (p : Names) (name : List ℕ) (rest : List Task) (w : Walk) (t : Tree) → k ≡ kind_of node → look t (p ++ name ∷ []) ≡ Some node
       → (m : MadeOn (walk_on (task_for_name true 0 path k ∷ rest) w) t r) → w.clears ≡ true → Rooted t → names_of path ≡ Ok (p ++ name ∷ []) → TopName k path (p ++ name ∷ []) rest w t m
-  top_name kinds.Folder Folder path p name rest w t is there m clears rooted named =
-      inr (refl, visited r whole (suc (length m.moves)) (Enter path 1) (p ++ name ∷ []) rest w t m (omega arith) clears rooted (named, there, refl, long_names p name))
+  top_name kinds.Folder Folder path p name rest w t is there m clears rooted named = search (rules, visited, long_names)
   top_name kinds.File (File bytes) path p name rest w t is there m clears rooted named =
       let miss = missed t w rest faults.NotADirectory m.moves clears m.run in inl (refl, miss.0, miss.1)
-  top_name kinds.Link (Link target) path p name rest w t is there m clears rooted named =
-      inr (refl, visited r whole (suc (length m.moves)) (RemoveFile path) (p ++ name ∷ []) rest w t m (omega arith) clears rooted (named, ap is_leaf there))
+  top_name kinds.Link (Link target) path p name rest w t is there m clears rooted named = search (rules, visited)
   top_name k node path p name rest w t is there m clears rooted named = absurd cc
 
   -- it is done and there was no file, or it isn't and there was one
@@ -122,8 +120,7 @@ module _ (r : Reply) (whole : BreaksOff commands.Clear r → ⊥) (cache : List 
 -- ---- both trees
 
 not_content : (b c d : Bool) → cond b Way (cond c Way (cond d Way Stray)) ≡ Content → ⊥
-not_content false false true e = cc
-not_content b c d e = cc
+not_content b c d e = grind (arith, common_steps)
 
 module _ (cache : List ℕ) (home : Names) (full lean rest left : Tree) (is : home_of cache ≡ Some home) (l : LacksIdle cache home full lean) where
   named_home : (p : Names) → names_of cache ≡ Ok p → home ≡ p
@@ -131,8 +128,7 @@ module _ (cache : List ℕ) (home : Names) (full lean rest left : Tree) (is : ho
 
   -- in the top folder both have the same
   same_child : (name : List ℕ) → look lean (home ++ name ∷ []) ≡ look full (home ++ name ∷ [])
-  same_child name = same_node cache home full lean is l (home ++ name ∷ []) (λ c.
-      not_content (bytes_eq name content_area) (bytes_eq name index_area) (bytes_eq name temp_area) (sym (kind-below home (name ∷ [])) ∙ c))
+  same_child name = search (rules, same_node, not_content, kind-below)
 
   same_names : listing lean home ≡ listing full home
   same_names = same_listing lean full home (λ q child.

@@ -1,6 +1,6 @@
 -- Lookups, reads by key and listings answer on one tree what they may answer on another, if reads do.
 -- Lookups, reads by key and listings don't see that a tree lacks idle contents.
-use Rattle.std.proofs.{Common.{◌≡◌, ◌⊎◌, inl, inr, ℕ, ◌+◌, ◌-◌, List, [], ◌∷◌, ◌++◌, Bool, true, false, cond, nat_le, nat_lt, Option, Some, None, Result, Ok, Err, length, take, refl, sym, ap, subst, ◌∙◌, arith, append-nil, append_assoc, zero, suc, bytes_eq, ap₂}, lemmas.{List.Elements.{All-cons, All-head, All-nil, All-tail}, Slice.Eq.{bytes_eq-Decides}}}
+use Rattle.std.proofs.{lemmas.{Grind.{common_steps}, List.Elements.{All-cons, All-head, All-nil, All-tail}, Slice.Eq.{bytes_eq-Decides}}, Common.{rules, ◌≡◌, ◌⊎◌, inl, inr, ℕ, ◌+◌, ◌-◌, List, [], ◌∷◌, ◌++◌, Bool, true, false, cond, nat_le, nat_lt, Option, Some, None, Result, Ok, Err, length, take, refl, sym, ap, subst, ◌∙◌, arith, append-nil, append_assoc, zero, suc, bytes_eq, ap₂}}
 use Rattle.hex.specs.Hex.{encode_lower}
 use Rattle.sha1.specs.Sha1.{sha1}
 use Rattle.cacache_core.specs.{declared.errors.Fault.{Fault, TheVariants.{NotFound, TooDeep, IsADirectory, Device}}, Meeting.{meets}, PathNames.{Names, names_of, home_of, IsProperName}, Paths.{join, bucket_names, cut_digits, index_area, content_area, temp_area}}
@@ -19,8 +19,7 @@ use Rattle.cacache_calls.specs.declared.carried.Content as carried
 use Rattle.cacache_calls.specs.declared.command.Command.TheVariants as commands
 
 fits_said : (path : List ℕ) (r : Result (List ℕ) Fault) → Fits (ReadAll path) (said r)
-fits_said path (Ok bytes) = tt
-fits_said path (Err fault) = tt
+fits_said path r = grind (arith, common_steps)
 
 abbrev IsReadAim : Aim → Type 0
 IsReadAim aims.Report = Unit {0}
@@ -79,16 +78,12 @@ module _ (site : Site) (home : Names) (t new : Tree) (at_home : home_of site.cac
   fits_read path = subst (Fits (ReadAll path)) (sym (read_answer t path)) (fits_said path (file_at t path IsADirectory))
 
   after_alike : (s : State) (x y : PlainAnswer) → ((durable : Bool) (b : List ℕ) → after s (answers.Bytes b) ≡ after s (answers.Bytes (compact_text durable b))) → Alike x y → after s y ≡ after s x
-  after_alike s x y lean (inl same) = ap (after s) (sym same)
-  after_alike s x y lean (inr (durable, b, now, old)) = ap (after s) old ∙ lean durable b ∙ ap (after s) (sym now)
+  after_alike s x y lean h = grind (arith, common_steps)
 
   -- ---- lookups
 
   ready_for : (l : Lookup) (aim : Aim) (o : Option Found) → IsReadAim aim → ((f : Found) → o ≡ Some f → Ready (reading (found_content l f))) → Ready (found_for l aim o)
-  ready_for l aims.Report o ok fixed = tt
-  ready_for l aims.Read None ok fixed = tt
-  ready_for l aims.Read (Some f) ok fixed = fixed f refl
-  ready_for l other o ok fixed = absurd ok
+  ready_for l aim o ok fixed = grind (arith, common_steps)
 
   ready_found : (l : Lookup) (u : PlainAnswer) → l.cache ≡ site.cache → IsReadAim l.aim → (apply t (ReadAll (bucket_path site.cache l.key)) Plain).0 ≡ u → Ready (after (looking l) u)
   unfolding found_in
@@ -106,18 +101,15 @@ module _ (site : Site) (home : Names) (t new : Tree) (at_home : home_of site.cac
   -- ---- contents
 
   ready_checked : (b : Bool) (x y : Reply) → Ready (cond b (over x) (over y))
-  ready_checked true x y = tt
-  ready_checked false x y = tt
+  ready_checked b x y = grind (arith, common_steps)
 
   ready_read : (k : carried.Content) (u : PlainAnswer) → Ready (after (reading k) u)
-  ready_read k (answers.Bytes b) = ready_checked (meets k.integrity b) _ _
-  ready_read k u = tt
+  ready_read k u = grind (arith, ready_checked)
 
   -- ---- walks
 
   ready_given : (b : Bool) (items more : List Item) (left : ℕ) (todo : List Task) → ((items : List Item) → Ready (walk_on todo (lists items left))) → Ready (cond b (walk_on todo (lists (items ++ more) left)) (too_many (lists (take most (items ++ more)) left)))
-  ready_given true items more left todo next = next (items ++ more)
-  ready_given false items more left todo next = tt
+  ready_given b items more left todo next = grind (arith, common_steps)
 
   ready_on : (todo : List Task) (items : List Item) (left : ℕ) → EachVisit Visits todo → Ready (walk_on todo (lists items left))
   ready_on [] items left each = tt
@@ -128,12 +120,10 @@ module _ (site : Site) (home : Names) (t new : Tree) (at_home : home_of site.cac
   ready_miss todo items left fault each = ready_given (nat_le (length items + length (failed fault ∷ [])) most) items (failed fault ∷ []) left todo (λ items. ready_on todo items left each)
 
   folder_visits : (b : Bool) (p : List ℕ) (level : ℕ) (todo : List Task) → InIndex p → EachVisit Visits todo → EachVisit Visits (cond b (Make (Enter p level)) (Stumble TooDeep p) ∷ todo)
-  folder_visits true p level todo at each = (at, each)
-  folder_visits false p level todo at each = each
+  folder_visits b p level todo at each = grind (arith, common_steps)
 
   name_visits : (kind : Kind) (level : ℕ) (p : List ℕ) (todo : List Task) → InIndex p → EachVisit Visits todo → EachVisit Visits (task_for_name false level p kind ∷ todo)
-  name_visits kinds.Folder level p todo at each = folder_visits (nat_lt level 16) p (level + 1) todo at each
-  name_visits kind level p todo at each = (at, each)
+  name_visits kind level p todo at each = grind (arith, folder_visits)
 
   names_visit : (ns : List Name) (level : ℕ) (p : List ℕ) (todo : List Task) → InIndex p → AreProperNames ns → EachVisit Visits todo → EachVisit Visits (tasks_of false level p ns ++ todo)
   names_visit [] level p todo at proper each = each
@@ -142,23 +132,16 @@ module _ (site : Site) (home : Names) (t new : Tree) (at_home : home_of site.cac
       (names_visit ns level p todo at (All-tail (λ (e : Name). IsProperName e.name) n ns proper) each)
 
   ready_entered : (b : Bool) (todo : List Task) (items : List Item) (left less : ℕ) → EachVisit Visits todo → Ready (cond b (walk_on todo (lists items less)) (too_many (lists items left)))
-  ready_entered true todo items left less each = ready_on todo items less each
-  ready_entered false todo items left less each = tt
+  ready_entered b todo items left less each = grind (arith, ready_on)
 
   ready_folder : (p : List ℕ) (level : ℕ) (todo : List Task) (items : List Item) (left : ℕ) (x : PlainAnswer) → InIndex p → EachVisit Visits todo → Fits (ReadDir p) x → Ready (after_visit (lists items left) (Enter p level) todo x)
-  ready_folder p level todo items left (answers.Names ns) at each fits =
-      ready_entered (nat_le (length ns) left) ((tasks_of false level p ns ++ []) ++ todo) items left (left - length ns)
-      (subst (λ (l : List Task). EachVisit Visits (l ++ todo)) (sym (append-nil (tasks_of false level p ns))) (names_visit ns level p todo at fits each))
+  ready_folder p level todo items left (answers.Names ns) at each fits = search (rules, ready_entered, names_visit)
   ready_folder p level todo items left (answers.Failed fault) at each fits = ready_miss todo items left fault each
   ready_folder p level todo items left (answers.NoMemory step) at each fits = tt
   ready_folder p level todo items left other at each fits = ready_miss todo items left Device each
 
   ready_bucket : (p : List ℕ) (todo : List Task) (items : List Item) (left : ℕ) (x : PlainAnswer) → EachVisit Visits todo → Ready (after_visit (lists items left) (ReadBucket p) todo x)
-  ready_bucket p todo items left (answers.Bytes b) each = ready_given (nat_le (length items + length (items_in b)) most) items (items_in b) left todo (λ items. ready_on todo items left each)
-  ready_bucket p todo items left (answers.Failed NotFound) each = ready_on todo items left each
-  ready_bucket p todo items left (answers.Failed other) each = ready_miss todo items left _ each
-  ready_bucket p todo items left (answers.NoMemory step) each = tt
-  ready_bucket p todo items left other each = ready_miss todo items left Device each
+  ready_bucket p todo items left x each = grind (arith, ready_given, ready_on, ready_miss)
 
   lean_listed : (w : Walk) (p : List ℕ) (todo : List Task) (durable : Bool) (b : List ℕ) → after (walking w (ReadBucket p) todo) (answers.Bytes b) ≡ after (walking w (ReadBucket p) todo) (answers.Bytes (compact_text durable b))
   lean_listed w p todo durable b = ap (λ items. give w items (walk_on todo)) (sym ((compact_texts_answer durable b).lists))
@@ -183,11 +166,7 @@ module _ (site : Site) (home : Names) (t new : Tree) (at_home : home_of site.cac
       }
 
   read_goes : (k : carried.Content) → Ready (reading k) → Goes (reading k) (ReadAll (content_path k.cache k.integrity))
-  read_goes k fixed x fits e = record {
-    same = ap (after (reading k)) (sym (e ∙ fixed));
-    fits = fits_read (content_path k.cache k.integrity);
-    ready = ready_read k (apply t (ReadAll (content_path k.cache k.integrity)) Plain).0;
-  }
+  read_goes k fixed x fits e = search (rules, fits_read, ready_read)
 
   walk_goes : (items : List Item) (left : ℕ) (v : Visit) (todo : List Task) → Visits v → EachVisit Visits todo → Goes (walking (lists items left) v todo) (visit_step v)
   walk_goes items left (Enter p level) todo at each x fits e =
@@ -243,9 +222,7 @@ not_content file (suc n) (name ∷ rest) other e = not_content file n rest other
 not_content file n rest other e = cc
 
 other_area : (b c : Bool) (rest : Names) → cond b (kind_in_area Bucket 3 rest) (cond c (kind_in_area Temporary 1 rest) Stray) ≡ Content → ⊥
-other_area true c rest e = not_content Bucket 3 rest (λ f. cc) e
-other_area false true rest e = not_content Temporary 1 rest (λ f. cc) e
-other_area false false rest e = cc
+other_area b c rest e = grind (arith, not_content)
 
 inner : (q : Names) → kind_below q ≡ Content → (rest : Names) × (q ≡ content_area ∷ rest)
 inner [] e = absurd cc

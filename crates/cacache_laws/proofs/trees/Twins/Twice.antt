@@ -1,6 +1,6 @@
 -- A tree that lacks idle contents: what keeps it so, and that lookups and reads by key don't see it.
 -- A file or link that is removed from both trees, one of which lacks idle contents.
-use Rattle.std.proofs.{Common.{◌≡◌, ◌⊎◌, inl, inr, ℕ, List, [], ◌∷◌, ◌++◌, Option, Some, None, Bool, true, false, cond, Ok, refl, sym, ap, ◌∙◌, arith, Result, Err, subst}, lemmas.List.Elements.{All-head}}
+use Rattle.std.proofs.{lemmas.{Grind.{common_steps}, List.Elements.{All-head}}, Common.{rules, ◌≡◌, ◌⊎◌, inl, inr, ℕ, List, [], ◌∷◌, ◌++◌, Option, Some, None, Bool, true, false, cond, Ok, refl, sym, ap, ◌∙◌, arith, Result, Err, subst}}
 use Rattle.sha1.specs.Sha1.{sha1}
 use Rattle.cacache_core.specs.{declared.{errors.Fault.{TheVariants.{NotFound}, Fault}, integrity.digest.Hash.{Hash}}, Integrity.{IsHash, IsIntegrity, address}, PathNames.{Names, names_of, home_of}, Paths.{joined, content_names, bucket_names}, Meeting.{meets}}
 use Rattle.cacache_core.proofs.{JoinedNames.{joined_texts_name}, ProperNames.{names_are_proper}, PathLemmas.{keys_have_digests}}
@@ -60,13 +60,11 @@ over_done t reply [] r run = tt
 over_done t reply (m ∷ moves) r run = absurd (let wrong : None ≡ Some m.0 = run.0 in cc)
 
 checked_over : (t : Tree) (b : Bool) (x y : Reply) (more : Moves) (reply : Reply) → Runs (cond b (over x) (over y)) more reply → AnsweredBy t more
-checked_over t true x y more reply run = over_done t x more reply run
-checked_over t false x y more reply run = over_done t y more reply run
+checked_over t b x y more reply run = grind (arith, over_done)
 
 -- after a content was read the call is over
 reading_over : (t : Tree) (k : carried.Content) (u : PlainAnswer) (more : Moves) (reply : Reply) → Runs (after (reading k) u) more reply → AnsweredBy t more
-reading_over t k (answers.Bytes b) more reply run = checked_over t (meets k.integrity b) _ _ more reply run
-reading_over t k u more reply run = over_done t _ more reply run
+reading_over t k u more reply run = grind (arith, checked_over, over_done)
 
 pub address_is : (i : List Hash) → IsIntegrity i → (h : Hash) × IsHash h × (address i ≡ Some h)
 address_is [] is = absurd (let some = is.nonempty in omega (arith, some))
@@ -114,13 +112,10 @@ module _ (cache : List ℕ) (home : Names) (full lean : Tree) (is : home_of cach
 
     found_moves : (b : List ℕ) (o : Option Found) (more : Moves) → found_in key b ≡ o → (apply full (ReadAll (bucket_path cache key)) Plain).0 ≡ Bytes b → Runs (found_for by_key aims.Read o) more reply → AnsweredBy lean more → AnsweredBy full more
     unfolding found_in
-    found_moves b None more e answer run a = over_done full _ more reply run
-    found_moves b (Some f) more e answer run a = content_moves f more (b, answer, e) run a
+    found_moves b o more e answer run a = grind (arith, over_done, content_moves)
 
     bucket_moves : (u : PlainAnswer) (more : Moves) → (apply full (ReadAll (bucket_path cache key)) Plain).0 ≡ u → Runs (after (looking by_key) u) more reply → AnsweredBy lean more → AnsweredBy full more
-    bucket_moves (answers.Bytes b) more answer run a = found_moves b (found_in key b) more refl answer run a
-    bucket_moves (answers.Failed NotFound) more answer run a = over_done full _ more reply run
-    bucket_moves u more answer run a = over_done full _ more reply run
+    bucket_moves u more answer run a = grind (arith, found_moves, over_done)
 
     pub get_moves : (moves : Moves) → Runs (looking by_key) moves reply → AnsweredBy lean moves → AnsweredBy full moves
     get_moves [] run a = tt
@@ -143,9 +138,7 @@ leaf_goes t path names (Some (Link target)) rooted is there e = rw (is, way_clea
 leaf_goes t path names here rooted is there e = absurd cc
 
 leaf_at : (here : Option Node) (old new : Names) → where_removable here old ≡ Ok new → (is_leaf here ≡ true) × (old ≡ new)
-leaf_at (Some (File bytes)) old new e = (refl, cc)
-leaf_at (Some (Link target)) old new e = (refl, cc)
-leaf_at here old new e = absurd cc
+leaf_at here old new e = grind (arith, common_steps)
 
 leaf_there : (t : Tree) (path : List ℕ) (names : Names) → removable t path ≡ Ok names → (names_of path ≡ Ok names) × (is_leaf (look t names) ≡ true)
 unfolding removable
@@ -156,8 +149,7 @@ leaf_there t path names e =
 
 -- if it was done, a file or link was there
 done_ok : (t : Tree) (r : Result Names Fault) → (unless r t (λ names. (Done, cut t names))).0 ≡ Done → (names : Names) × (r ≡ Ok names)
-done_ok t (Ok names) e = (names, refl)
-done_ok t (Err fault) e = absurd cc
+done_ok t r e = grind (arith, common_steps)
 
 pub leaf_done : (t : Tree) (path : List ℕ) (names : Names) → names_of path ≡ Ok names → (apply t (RemoveFile path) Plain).0 ≡ Done → is_leaf (look t names) ≡ true
 unfolding apply
@@ -194,11 +186,7 @@ file_goes t path rooted = named_goes t path (names_of path) rooted refl
 -- ---- what is cut
 
 cut_within : (t : Tree) (names : Names) → Within (cut t names) t
-cut_within t names q node e = by (same_path q names) (sym (look-cut t names q) ∙ e)
-  where
-    by : (b : Bool) → cond b None (look t q) ≡ Some node → look t q ≡ Some node
-    by true e = absurd cc
-    by false e = e
+cut_within t names q node e = search (rules, look-cut)
 
 cut_here : (t : Tree) (names q : Names) → same_path q names ≡ true → look (cut t names) q ≡ None
 cut_here t names q same = look-cut t names q ∙ ap (λ b. cond b None (look t q)) same
@@ -233,8 +221,7 @@ module _ (cache : List ℕ) (home : Names) (full lean : Tree) (l : LacksIdle cac
   lean_lacks names fault is leaf empty a b (inr gap) = from_full names (cut full names) fault is gap.1.idle a b (full_cut cache home full lean l names gap.0)
 
   full_has : (names : Names) → is_leaf (look lean names) ≡ true → (look lean names ≡ look full names) ⊎ ((look lean names ≡ None) × IsIdle cache home full names) → is_leaf (look full names) ≡ true
-  full_has names leaf (inl same) = ap is_leaf (sym same) ∙ leaf
-  full_has names leaf (inr gap) = absurd (let wrong : true ≡ false = sym leaf ∙ ap is_leaf gap.0 in cc)
+  full_has names leaf h = grind (arith, common_steps)
 
   twice : FileGoes full path → FileGoes lean path → Twice cache home full lean path
   twice (goes names is leaf a) (goes other named there b) =
