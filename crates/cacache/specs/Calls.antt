@@ -18,5 +18,5 @@ pub use Rattle.cacache_jobs.specs.Environment.{KeepsRest, Steps, Calls, MomentOf
 pub use Rattle.cacache_sync.specs.put.Puts.{keyed_put, unkeyed_put, insert_of}
 pub use Rattle.cacache_sync.specs.Reads.{AsksContent, bytes_read, has}
 pub use Rattle.cacache_sync.specs.Exports.{exporting, checked_export, unchecked_export}
-pub use Rattle.cacache_sync.specs.Ways.{ExportsBy, Tries, ways, way_of, is_closed, export_reply}
+pub use Rattle.cacache_sync.specs.Ways.{Asks, AsksFree, ExportsBy, ExportsTo, GoesOn, Tries, ways, way_of, is_closed, export_reply}
 pub use Rattle.cacache_sync.specs.Layers.{AsksLayers, ReadsKey, ReadsHash, FindsKey, AsksHash, lacks_entry, lacks_content, finds_none, says_no}

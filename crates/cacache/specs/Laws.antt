@@ -41,4 +41,4 @@ pub use Rattle.cacache_laws.specs.results.Linkers.{MemLinker, IsLinking, OpenedL
 pub use Rattle.cacache_calls.specs.ListReplies.{In}
 pub use Rattle.cacache_laws.specs.results.Lists.{AreAllEntries, FailsListing, GivesError, ListedEntries}
 pub use Rattle.cacache_laws.specs.results.Handles.{MemWriter, IsWriting, OpenedWriter, SaysFit, ListsOwn, AreAsExpected, FailsCommit, IsEntryFor, LeadsToEntry, MayLeadToEntry, LiesOrStayed, CommittedBytes, said_integrity}
-pub use Rattle.cacache_laws.specs.results.Composed.{WentOut, GivesLayered, LacksContent, GotOrPut}
+pub use Rattle.cacache_laws.specs.results.Composed.{IsTaken, WentOut, GivesLayered, LacksContent, LastsBeside, GotOrPut}

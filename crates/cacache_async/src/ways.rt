@@ -1,6 +1,6 @@
 //! Futures of exports that go the cheapest way that is open.
 ghost use Rattle.std.specs.Prelude.{◌≡◌, ◌≢◌, IfOk};
-ghost use Rattle.cacache_sync.specs.{declared.{exporting.Named.TheVariants.{Key, Hash}, ways.{ExportMode.TheVariants.{Own}, Exported.TheVariants.{HardLinked}}}, Exports.{named_source, IsFormed}, Ways.{Tries, ways}};
+ghost use Rattle.cacache_sync.specs.{declared.{exporting.Named.TheVariants.{Key, Hash}, ways.{ExportMode.TheVariants.{Own}, Exported.TheVariants.{HardLinked}}}, Exports.{named_source, IsFormed}, Ways.{ExportsTo}};
 ghost use Rattle.cacache_async.specs.Waiting.{Waits};
 
 use crate::call::Call;
@@ -25,7 +25,7 @@ impl<'a, S: Store, C: Clock, N: Names> Call<S, C, N> for ExportCall<'a> {
     type Output = Exported;
 
     ghost makes = { λ c old r new. IsFormed c.named
-        × Tries S.log c.cache.now (named_source c.named) c.to.now (ways c.mode) old new r
+        × ExportsTo S.log c.cache.now (named_source c.named) c.to.now c.mode old new r
         × (c.mode ≡ Own → IfOk r (λ e. e ≢ HardLinked)) };
 
     fn make(self, env: &mut Env<S, C, N>) -> Result<Exported> {

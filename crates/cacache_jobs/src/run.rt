@@ -60,6 +60,24 @@ pub fn drive<S: Store>(store: &mut S, job: Job<S::File, S::Temp>) -> Reply
     go_on(store, alloc, Ok(phase))
 }
 
+/// Makes the steps of a call until it is over, and then ends its walk if it made one.
+fn finish<S: Store>(
+    store: &mut S,
+    alloc: Global,
+    phase: errors::Result<Phase<S::File, S::Temp>>,
+    walks: bool,
+) -> Reply
+    requires { (s : State) × Leads S.File.seen S.Temp.seen phase s }
+    ensures { (s : State) → Leads S.File.seen S.Temp.seen phase s
+        → Ran s (plain_reply result) (S.log store.old) (S.log store.new) }
+{
+    let reply = go_on(store, alloc, phase);
+    if walks {
+        store.end_walks();
+    }
+    reply
+}
+
 /// Makes a call on a cache from its beginning to its end. The reply is that of a run of the call. If the store keeps its
 /// log, the log gained exactly that run. Over every store, the reply is as the command promises. Bytes that were read by key
 /// meet the integrity that the call's own read of the bucket returned. A checked export verified the bytes of the file that
@@ -89,6 +107,7 @@ pub fn call<S: Store, C, N>(
     ensures base { env.new.base ≡ env.old.base }
 {
     form_command(&command);
+    let walks = command.walks();
     let phase = open(env.alloc, cache, env.base.as_str(), number, command);
-    go_on(&mut env.store, env.alloc, phase)
+    finish(&mut env.store, env.alloc, phase, walks)
 }

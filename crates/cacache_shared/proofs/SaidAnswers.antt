@@ -1,4 +1,5 @@
 -- What a command promises of its reply, it promises of what both say: no promise looks at a JSON value.
+use native.Mathlib.Omega.{arith}
 use Rattle.std.proofs.Common.{◌≡◌, List, Option, Result}
 use Rattle.cacache_core.specs.declared.errors.Error.{Error}
 use Rattle.cacache_entry.specs.Latest.{Found}
@@ -15,20 +16,11 @@ no_found Reflink f h = let no : LookedUp f ≡ Done = h in absurd cc
 no_found HardLink f h = let no : LookedUp f ≡ Done = h in absurd cc
 
 found_kept : (site : Site) (c : Command) (f g : Option Found) → Answers site c (LookedUp f) → Answers site c (LookedUp g)
-found_kept site (commands.Put p) f g h = absurd h
-found_kept site (commands.Link l) f g h = absurd h
 found_kept site (commands.Insert i) f g h = let no : LookedUp f ≡ Stored _ = h in absurd cc
-found_kept site (commands.Delete d) f g h = let no : LookedUp f ≡ Done = h in absurd cc
 found_kept site (commands.Find key) f g h = tt
-found_kept site (commands.Get key) f g h = absurd h
-found_kept site (commands.GetHash i) f g h = absurd h
-found_kept site (commands.Exists i) f g h = absurd h
-found_kept site commands.Ls f g h = absurd h
 found_kept site (commands.Export (sources.Key key) e) f g h = no_found e.how f h
 found_kept site (commands.Export (sources.Hash i) e) f g h = no_found e.how f h.0
-found_kept site (commands.RemoveHash i) f g h = let no : LookedUp f ≡ Done = h in absurd cc
-found_kept site (commands.RemoveFully key) f g h = let no : LookedUp f ≡ Done = h in absurd cc
-found_kept site commands.Clear f g h = let no : LookedUp f ≡ Done = h in absurd cc
+found_kept site command f g h = grind arith
 
 abbrev Items : Type 0
 Items = List (Result Found Error)
@@ -39,20 +31,11 @@ no_items Reflink l h = let no : Listed l ≡ Done = h in absurd cc
 no_items HardLink l h = let no : Listed l ≡ Done = h in absurd cc
 
 items_kept : (site : Site) (c : Command) (l m : Items) → Answers site c (Listed l) → Answers site c (Listed m)
-items_kept site (commands.Put p) l m h = absurd h
-items_kept site (commands.Link k) l m h = absurd h
 items_kept site (commands.Insert i) l m h = let no : Listed l ≡ Stored _ = h in absurd cc
-items_kept site (commands.Delete d) l m h = let no : Listed l ≡ Done = h in absurd cc
-items_kept site (commands.Find key) l m h = absurd h
-items_kept site (commands.Get key) l m h = absurd h
-items_kept site (commands.GetHash i) l m h = absurd h
-items_kept site (commands.Exists i) l m h = absurd h
 items_kept site commands.Ls l m h = tt
 items_kept site (commands.Export (sources.Key key) e) l m h = no_items e.how l h
 items_kept site (commands.Export (sources.Hash i) e) l m h = no_items e.how l h.0
-items_kept site (commands.RemoveHash i) l m h = let no : Listed l ≡ Done = h in absurd cc
-items_kept site (commands.RemoveFully key) l m h = let no : Listed l ≡ Done = h in absurd cc
-items_kept site commands.Clear l m h = let no : Listed l ≡ Done = h in absurd cc
+items_kept site command l m h = grind arith
 
 -- ---- what both say
 
@@ -83,18 +66,7 @@ command_said site (commands.Link l) (Exists there) h = h
 command_said site (commands.Link l) (Copied n) h = h
 command_said site (commands.Link l) (Listed items) h = h
 command_said site (commands.Link l) Done h = h
-command_said site (commands.Insert i) r h = h
-command_said site (commands.Delete d) r h = h
-command_said site (commands.Find key) r h = h
-command_said site (commands.Get key) r h = h
-command_said site (commands.GetHash i) r h = h
-command_said site (commands.Exists i) r h = h
-command_said site commands.Ls r h = h
-command_said site (commands.Export (sources.Key key) e) r h = h
-command_said site (commands.Export (sources.Hash i) e) r h = h
-command_said site (commands.RemoveHash i) r h = h
-command_said site (commands.RemoveFully key) r h = h
-command_said site commands.Clear r h = h
+command_said site command r h = h
 
 pub said_answers : (site : Site) (c : Command) (r : Reply) → Answers site c (plain_reply r) → Answers site (said_command c) (plain_reply (said_reply r))
 said_answers site c r h = command_said site c (plain_reply (said_reply r)) (reply_said site c r h)

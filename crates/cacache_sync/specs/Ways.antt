@@ -1,26 +1,26 @@
--- Exports that go the cheapest way: which ways a mode allows, and what comes of trying them in order.
-use Rattle.std.specs.Prelude.{◌≡◌, ℕ, Bool, true, false, MatchBool, List, [], ◌∷◌, Option, Result, Err, IfOk}
-use Rattle.cacache_core.specs.declared.errors.{Error.{Error, TheVariants.{IoError}}, Fault.TheVariants.{Unsupported, Device}}
-use Rattle.cacache_store.specs.declared.{env.Env.{Env}, store.log.LogItem.{LogItem}}
-use Rattle.cacache_calls.specs.{declared.{command.{Source.{Source}, How.{How, TheVariants.{Copy, Reflink, HardLink}}}, reply.Reply.{Reply, TheVariants.{Copied, Done}}}, Runs.{reply_of}}
-use Rattle.cacache_jobs.specs.{Environment.{Calls}, ReadFirst.{Verified}}
+-- Exports that go the cheapest way: which ways a mode allows, what is asked of the path first, and what comes of trying
+-- the ways in order.
+use Rattle.std.specs.Prelude.{◌≡◌, ℕ, Bool, true, false, MatchBool, List, [], ◌∷◌, Option, Result, Ok, Err, IfOk}
+use Rattle.cacache_core.specs.declared.errors.{Error.{Error, TheVariants.{IoError, OutOfMemory}}, Fault.TheVariants.{AlreadyExists, Device, NotFound, Unsupported}}
+use Rattle.cacache_store.specs.{declared.{env.Env.{Env}, store.log.LogItem.{LogItem}}, Plain.{PlainAnswer}}
+use Rattle.cacache_store.specs.declared.store.step.Step.TheVariants as steps
+use Rattle.cacache_calls.specs.{Answers.{done_in}, SingleSteps.{Does}, declared.{answers.Refusal.{Refusal, TheVariants.{Fault}}, command.{Source.{Source}, How.{How, TheVariants.{Copy, HardLink}}}, reply.Reply.{Reply, TheVariants.{Copied, Done}}}, Runs.{reply_of}}
+use Rattle.cacache_jobs.specs.{Environment.{Calls, KeepsRest}, ReadFirst.{Verified}}
 use Rattle.cacache_sync.specs.{declared.ways.{Exported.{Exported}, ExportMode.{ExportMode, TheVariants.{Shared, Own}}}, Exports.{checked_export}}
 use Rattle.cacache_sync.specs.declared.ways.Exported.TheVariants as exported
 
 -- the ways that a mode allows, cheapest first
 abbrev pub ways : ExportMode → List How
-ways Shared = Reflink ∷ HardLink ∷ Copy ∷ []
-ways Own = Reflink ∷ Copy ∷ []
+ways Shared = HardLink ∷ Copy ∷ []
+ways Own = Copy ∷ []
 
 -- the way that an export went
 abbrev pub way_of : Exported → How
-way_of exported.Reflinked = Reflink
 way_of exported.HardLinked = HardLink
 way_of (exported.Copied count) = Copy
 
 -- the answer of an export that went this way
 abbrev pub export_reply : Exported → Reply
-export_reply exported.Reflinked = Done
 export_reply exported.HardLinked = Done
 export_reply (exported.Copied count) = Copied count
 
@@ -29,6 +29,28 @@ abbrev pub is_closed : Result Exported Error → Bool
 is_closed (Err (IoError Unsupported message)) = true
 is_closed (Err (IoError Device message)) = true
 is_closed r = false
+
+-- what a hard link of a path to itself tells, by what came of it: nothing is there, or why nothing can
+-- be made there
+abbrev pub free_in : Result (Unit {0}) Refusal → Result (Unit {0}) Refusal
+free_in (Ok nothing) = Err (Fault AlreadyExists)
+free_in (Err (Fault NotFound)) = Ok tt
+free_in (Err refusal) = Err refusal
+
+-- the log gained a hard link of the path to itself, which told this
+abbrev pub Asks :
+    List ℕ → Result (Unit {0}) Refusal → Option (List LogItem) → Option (List LogItem) → Type 0
+Asks to told old new =
+    (answer : PlainAnswer) × Does (steps.HardLink to to) answer old new
+    × (free_in (done_in answer) ≡ told)
+
+-- the path was asked for: nothing is there, or why nothing can be made there; out of memory asked nothing
+abbrev pub AsksFree :
+    List ℕ → Option (List LogItem) → Option (List LogItem) → Result (Unit {0}) Error → Type 0
+AsksFree to old new (Ok nothing) = Asks to (Ok tt) old new
+AsksFree to old new (Err (IoError fault message)) = Asks to (Err (Fault fault)) old new
+AsksFree to old new (Err OutOfMemory) = new ≡ old
+AsksFree to old new (Err e) = ⊥
 
 module _ {S C N : Type 0} (log : S → Option (List LogItem)) (cache : List ℕ) (source : Source) (to : List ℕ) where
   -- the content was verified and exported this way, or why it wasn't
@@ -45,3 +67,16 @@ module _ {S C N : Type 0} (log : S → Option (List LogItem)) (cache : List ℕ)
   Tries (how ∷ others) old new r =
       (mid : Env S C N) × (tried : Result Exported Error) × ExportsBy how old mid tried
       × MatchBool (is_closed tried) (Tries others mid new r) ((new ≡ mid) × (r ≡ tried))
+
+  -- an error is the result; otherwise the ways of the mode were tried
+  abbrev pub GoesOn :
+      ExportMode → Result (Unit {0}) Error → Env S C N → Env S C N → Result Exported Error → Type 0
+  GoesOn mode (Ok nothing) old new r = Tries (ways mode) old new r
+  GoesOn mode (Err e) old new r = (new ≡ old) × (r ≡ Err e)
+
+  -- the path was asked for, and if nothing was there, the ways of the mode were tried
+  abbrev pub ExportsTo : ExportMode → Env S C N → Env S C N → Result Exported Error → Type 0
+  ExportsTo mode old new r =
+      (mid : Env S C N) × (asked : Result (Unit {0}) Error)
+      × AsksFree to (log old.store) (log mid.store) asked × KeepsRest old mid
+      × GoesOn mode asked mid new r

@@ -2,7 +2,7 @@
 ghost use Rattle.std.specs.Prelude.{◌≡◌, ◌≢◌, IfOk};
 ghost use Rattle.cacache_calls.specs.{declared.{command.{How.TheVariants.{Copy, Reflink, HardLink}, Source.TheVariants.{Hash}}, reply.Reply.TheVariants.{Copied, Done}}, Runs.{reply_of}, Replies.{done}};
 ghost use Rattle.cacache_core.specs.Integrity.{IsIntegrity};
-ghost use Rattle.cacache_sync.specs.{Exports.{checked_export, unchecked_export}, Ways.{Tries, ways}};
+ghost use Rattle.cacache_sync.specs.{Exports.{checked_export, unchecked_export}, Ways.{ExportsTo}};
 ghost use Rattle.cacache_jobs.specs.{ReadFirst.{Verified}, Environment.{Calls}};
 
 use crate::exporting::{Named, copy_content, link_content};
@@ -170,12 +170,13 @@ pub fn hard_link_hash_unchecked_sync<S: Store, C: Clock, N: Names>(
     link_content(env, cache, Named::Hash(sri), How::HardLink, false, to)
 }
 
-/// Exports the content of the integrity to this path, the cheapest way that is open there, and answers which way that
-/// was. It tries the ways as `export_sync` does, and each reads the content to its end first, and goes on only if it meets
-/// the integrity. A copy overwrites a file at the path; the other two ways fail with `AlreadyExists`.
+/// Exports the content of the integrity to this path, where nothing may be, and answers how: by a copy with `Own`, by a
+/// hard link or a copy with `Shared`, as `export_sync` does. A way reads the content to its end first, and goes on only
+/// if it meets the integrity.
 ///
-/// An error is that of the first way that isn't closed, or else that of the copy: `IntegrityError` and `IoError` come as
-/// from `copy_hash_sync`. `OutOfMemory` may come after the last step.
+/// `AlreadyExists` says that something is at the path, in both modes, and nothing changed. Other errors are those of the
+/// hard link or, if that failed with `Unsupported` or `Device`, of the copy: `IntegrityError` and `IoError` come as from
+/// `copy_hash_sync`. `OutOfMemory` may come after the last step.
 pub fn export_hash_sync<S: Store, C: Clock, N: Names>(
     env: &mut Env<S, C, N>,
     cache: &str,
@@ -184,7 +185,7 @@ pub fn export_hash_sync<S: Store, C: Clock, N: Names>(
     mode: ExportMode,
 ) -> Result<Exported>
     ensures formed { IsIntegrity sri.now }
-    ensures tries { Tries S.log cache.now (Hash sri.now) to.now (ways mode)
+    ensures exports { ExportsTo S.log cache.now (Hash sri.now) to.now mode
         env.old env.new result }
     ensures own { mode ≡ ExportMode.Own → IfOk result (λ e. e ≢ Exported.HardLinked) }
 {

@@ -1,7 +1,7 @@
 //! Exports of the content that a key names.
 ghost use Rattle.std.specs.Prelude.{◌≡◌, ◌≢◌, IfOk};
 ghost use Rattle.cacache_calls.specs.{declared.{command.{How.TheVariants.{Copy, Reflink, HardLink}, Source.TheVariants.{Key}}, reply.Reply.TheVariants.{Copied, Done}}, Runs.{reply_of}, Replies.{done}};
-ghost use Rattle.cacache_sync.specs.{Exports.{checked_export, unchecked_export}, Ways.{Tries, ways}};
+ghost use Rattle.cacache_sync.specs.{Exports.{checked_export, unchecked_export}, Ways.{ExportsTo}};
 ghost use Rattle.cacache_jobs.specs.{ReadFirst.{Verified}, Environment.{Calls}};
 
 use crate::exporting::{Named, copy_content, link_content};
@@ -169,16 +169,19 @@ pub fn hard_link_unchecked_sync<S: Store, C: Clock, N: Names>(
     link_content(env, cache, Named::Key(key), How::HardLink, false, to)
 }
 
-/// Exports the content that a lookup of the key finds to this path, the cheapest way that is open there, and answers
-/// which way that was. The ways are tried in order: a reflink, then, if the mode is `Shared`, a hard link, and at last a
-/// copy. A way is closed if it fails with `Unsupported` or with `Device`, which is also the fault of a path on another
-/// device. With `Own` the path never becomes a name of the cache's file.
+/// Exports the content that a lookup of the key finds to this path, where nothing may be, and answers how. With `Own`
+/// it is copied. With `Shared` it gets the path as one more name, or is copied if a hard link fails with `Unsupported`
+/// or with `Device`, which is also the fault of a path on another device.
 ///
-/// Each way reads the content to its end first, and goes on only if it meets the integrity that the lookup gives. Nothing
-/// should be at the path: a copy overwrites a file there, and the other two ways fail with `AlreadyExists`.
+/// The first step asks for the path. `AlreadyExists` says that something is there, in both modes: a file, also one that
+/// is a name of the content, a folder, or a link, even to nothing. Then nothing changed. What somebody else puts there
+/// after that step meets a copy as in `copy_sync`, and a hard link fails.
 ///
-/// An error is that of the first way that isn't closed, or else that of the copy: `EntryNotFound`, `IntegrityError` and
-/// `IoError` come as from `copy_sync`, which also says what a copy that failed may leave. Other ways that fail change
+/// A way reads the content to its end first, and goes on only if it meets the integrity that the lookup gives. With `Own`
+/// this is done once; with `Shared` a second time if the hard link failed.
+///
+/// Other errors are those of the hard link or, if that failed as above, of the copy: `EntryNotFound`, `IntegrityError` and
+/// `IoError` come as from `copy_sync`, which also says what a copy that failed may leave. A hard link that fails changes
 /// nothing. `OutOfMemory` may come after the last step.
 pub fn export_sync<S: Store, C: Clock, N: Names>(
     env: &mut Env<S, C, N>,
@@ -187,7 +190,7 @@ pub fn export_sync<S: Store, C: Clock, N: Names>(
     to: &str,
     mode: ExportMode,
 ) -> Result<Exported>
-    ensures tries { Tries S.log cache.now (Key key.now) to.now (ways mode)
+    ensures exports { ExportsTo S.log cache.now (Key key.now) to.now mode
         env.old env.new result }
     ensures own { mode ≡ ExportMode.Own → IfOk result (λ e. e ≢ Exported.HardLinked) }
 {

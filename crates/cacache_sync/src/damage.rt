@@ -3,7 +3,6 @@ ghost use Rattle.std.specs.Prelude.{◌≡◌};
 ghost use Rattle.cacache_sync.specs.Damage.{lack_in, tells_damage};
 
 use cacache_core::errors::{Error, Fault, IntegrityFault, Result};
-use cacache_core::integrity::Integrity;
 
 /// Whether the error says that bytes don't meet their integrity. The other errors about integrities are of texts that
 /// can't be read as one. Allocates nothing.
@@ -16,14 +15,15 @@ pub fn is_damage(error: &Error) -> bool
     }
 }
 
-/// What a failed read of a key shows: None if there is no entry or no content, and the integrity of a damaged content. Any
-/// other error is handed on.
-pub(crate) fn lack_of(error: Error) -> Result<Option<Integrity>>
+/// Whether a failed read of a key shows that the cache lacks its bytes: there is no entry, no content, or a damaged
+/// one. Any other error is handed on.
+pub(crate) fn lack_of(error: Error) -> Result<()>
     ensures { result ≡ lack_in error }
 {
     match error {
-        Error::EntryNotFound(_, _) | Error::IoError(Fault::NotFound, _) => Ok(None),
-        Error::IntegrityError(IntegrityFault::Check(wanted, _)) => Ok(Some(wanted)),
+        Error::EntryNotFound(_, _)
+        | Error::IoError(Fault::NotFound, _)
+        | Error::IntegrityError(IntegrityFault::Check(_, _)) => Ok(()),
         other => Err(other),
     }
 }

@@ -22,6 +22,15 @@ pub enum Named<'a> {
     Hash(&'a Integrity),
 }
 
+/// Does nothing: an integrity that is named is one.
+pub(crate) fn form_named(named: Named<'_>)
+    ensures formed { IsFormed named.entry }
+{
+    if let Named::Hash(sri) = named {
+        let _address = sri.address();
+    }
+}
+
 /// The same as the source of a command.
 fn source_of(alloc: Global, named: Named<'_>) -> std::result::Result<Source, AllocError>
     ensures source { IfOk result (λ source. source ≡ named_source named.entry) }

@@ -40,6 +40,15 @@ fn metadata_of(item: Result<Found, Error>) -> errors::Result<Metadata>
     }
 }
 
+/// Ends the walk of a store if it is over.
+fn end_walk<S: Store>(store: &mut S, is_over: bool)
+    ensures { S.log store.new ≡ S.log store.old }
+{
+    if is_over {
+        store.end_walks();
+    }
+}
+
 impl<'a, S: Store, C, N> Ls<'a, S, C, N> {
     /// A listing of this cache that hasn't made a step yet.
     ///
@@ -91,7 +100,10 @@ impl<'a, S: Store, C, N> Ls<'a, S, C, N> {
         };
         let answer = self.env.store.step(step);
         match self.walk.resume(self.env.alloc, visit, answer) {
-            Ok(next) => self.visit = next,
+            Ok(next) => {
+                end_walk(&mut self.env.store, next.is_none());
+                self.visit = next;
+            }
             Err(error) => return Err(error),
         }
         swap(&mut self.ready, &mut self.walk.items);

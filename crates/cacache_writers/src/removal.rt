@@ -8,6 +8,7 @@ use cacache_core::keeping::let_go;
 use cacache_folder::FolderTemp;
 use cacache_store::store::{PlainTemp, TempFile};
 use std::io;
+use std::os::fd::AsRawFd;
 use std::rt::Files;
 
 /// A temporary file that removes itself, since a worker has no store that could. One that asks the system for it keeps
@@ -31,7 +32,10 @@ fn told(answer: io::Result<()>) -> Result<(), Fault>
     }
 }
 
-impl<R: Files + Drop> RemovableTemp for FolderTemp<R> {
+impl<R: Files + Drop> RemovableTemp for FolderTemp<R>
+where
+    R::File: AsRawFd,
+{
     fn remove(self) -> Result<(), Fault> {
         told(FolderTemp::remove(self))
     }

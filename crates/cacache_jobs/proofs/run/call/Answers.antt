@@ -1,16 +1,17 @@
-use Rattle.std.proofs.Common.{◌≡◌}
+use Rattle.std.proofs.Common.{◌≡◌, ℕ, List, subst}
 use Rattle.cacache_calls.{specs.{State.{Site}, Table.{opening}}, proofs.Promises.{calls_answer}}
-use Rattle.cacache_jobs.{specs.Sites.{site_of}, proofs.{Running.{memory_lost}, Calling.{finds_bytes, reads_first}}}
+use Rattle.cacache_jobs.{specs.{Sites.{site_of}, JobStates.{Leads}}, proofs.{Running.{memory_lost}, Calling.{finds_bytes, reads_first}}}
 use Rattle.cacache_jobs.proofs.run.call.Goals as goal
 
-pub go_on-requires : goal.go_on-requires
-go_on-requires g c = (opening (site_of c.args.cache.now c.as_str.result.now c.args.number) c.args.command, c.open-phase.ensures)
+pub finish-requires : goal.finish-requires
+finish-requires g c = (opening (site_of c.args.cache.now c.as_str.result.now c.args.number) c.args.command, c.open-phase.ensures)
 
 pub returns-clause-ran : goal.returns-clause-ran
 returns-clause-ran g c =
     let is : c.as_str.result.now ≡ c.args.env.now.base = c.as_str.ensures.same in
     let site : Site = site_of c.args.cache.now c.args.env.now.base c.args.number in
-    c.go_on.ensures (opening site c.args.command) (rw is at c.open-phase.ensures)
+    let leads = subst (λ (base : List ℕ). Leads g.S.File.FileHandle.seen g.S.Temp.TempHandle.seen c.open-phase.result (opening (site_of c.args.cache.now base c.args.number) c.args.command)) is c.open-phase.ensures in
+    c.finish.ensures (opening site c.args.command) leads
 
 pub returns-clause-found : goal.returns-clause-found
 returns-clause-found g c =
