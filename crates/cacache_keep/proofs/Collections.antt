@@ -2,6 +2,8 @@ pub mod Searching
 pub mod Leaving
 pub mod Behind
 pub mod StoppedKeys
+pub mod Fates
+pub mod Optional
 pub mod Sweeps
 pub mod Sizes
 pub mod Tidying

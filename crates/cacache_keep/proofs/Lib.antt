@@ -7,5 +7,6 @@ mod Indexes
 mod TreeRuns
 mod Losses
 mod Aging
+mod Confirmed
 mod SparedOnes
 mod TouchedKeys

@@ -2,20 +2,23 @@
 use Rattle.std.proofs.{Common.{◌≡◌, inl, inr, ◌<◌, ◌^◌, ℕ, Bool, true, false, cond, List, [], ◌∷◌, ◌++◌, Option, None, Some, Result, Ok, Err, map, fold, unwrap_or, option_map, refl, sym, ap, subst, ◌∙◌}, lemmas.{List.Elements.{All-head, All-tail}, Slice.Eq.{bytes_eq-Decides}}}
 use Rattle.std.specs.Prelude.{All, IfErr, IfOk, IfSome, IsUtf8, MatchOption, bytes_eq}
 use Rattle.sha1.specs.Sha1.{sha1}
-use Rattle.cacache_core.specs.{declared.{errors.Error.{Error}, integrity.digest.Hash.{Hash}}, PathNames.{home_of}}
-use Rattle.cacache_store.specs.declared.{env.Env.{Env}, store.log.LogItem.{LogItem, TheVariants.{Made as Logged}}}
+use Rattle.cacache_core.specs.{declared.{errors.Error.{Error, TheVariants.{IoError, OutOfMemory}}, integrity.digest.Hash.{Hash}}, PathNames.{home_of}}
+use Rattle.cacache_store.specs.declared.store.answer.Answer.TheVariants as answers
+use Rattle.cacache_store.specs.declared.store.step.Step.TheVariants as steps
+use Rattle.cacache_store.specs.{declared.{env.Env.{Env}, store.log.LogItem.{LogItem, TheVariants.{Made as Logged}}}, Plain.{PlainAnswer, PlainStep}}
 use Rattle.cacache_disk.specs.memory.Replay.{IsLog, tree_of}
 use Rattle.cacache_entry.specs.{Entry.{Entry}, FittingEntries.{AreBytes, IsEntry, IsJson}, Latest.{Found, after_entry, answer_of, answer_of_integrity, found_of}}
 use Rattle.cacache_calls.specs.declared.command.Command.TheVariants as commands
 use Rattle.cacache_calls.specs.declared.reply.Reply.TheVariants as replies
-use Rattle.cacache_calls.specs.{declared.{command.{Command.{Command}, Insert.{Insert}}, reply.Reply.{Reply}}, Inserting.{insertion}, Runs.{Ran, plain_reply, without_message}, Sound.{FormedIfWritten}, Table.{opening}}
+use Rattle.cacache_calls.specs.{declared.{command.{Command.{Command}, Insert.{Insert}}, reply.Reply.{Reply}}, Inserting.{insertion}, Runs.{Ran, plain_reply, without_message}, SingleSteps.{FailsAt}, Sound.{FormedIfWritten}, StepPaths.{bucket_path}, Table.{opening}}
 use Rattle.cacache_calls.proofs.IntegrityUtf8.{integrity_utf8}
 use Rattle.cacache_jobs.specs.{Environment.{AsksMoment}, Sites.{site_of}}
 use Rattle.cacache_sync.specs.put.Puts.{insert_of}
 use Rattle.cacache_history.proofs.Entries.Spelled.{HasIntegrity, latest_has}
 use Rattle.cacache_laws.specs.{Caches.{Called, IsCache}, Inserts.{InsertsKey}, Keeping.{KeepsOthers, StaysKnown, found_under}, Looks.{GivesFound}, OpenWriters.{LeavesKnownCache}, ReadAnswers.{entries_on}}
-use Rattle.cacache_laws.proofs.{Calls.{Logs.{some_same}, CallErrors.{plain_error}}, Putting.Puts.{inserts_last}, Readings.{Known.{caches_last}, GivenReads.{finds_found}, Looks.{tree_stays}, OpenReaders.{log_front}}, results.Told.{looks_leave}}
-use Rattle.cacache_keep.specs.{Calls.{MadeCalls}, Touched.{LeadsAnew, LeavesTouched, TouchMeans, at_moment}, Touching.{StopsTouching, Touches, is_found, renewed, said_of, touch_of}}
+use Rattle.cacache_laws.proofs.{Calls.{InParts.{logs_lead}, Logs.{some_same}, CallErrors.{plain_error}}, Putting.Puts.{inserts_last}, Readings.{Known.{caches_last}, GivenReads.{finds_found}, Looks.{tree_stays}, OpenReaders.{leaves, log_front}}, results.Told.{looks_leave}}
+use Rattle.cacache_keep.specs.{Touched.{LeadsAnew, LeavesTouched, TouchMeans, at_moment}, Touching.{ReadsClean, StopsChecking, StopsTouching, Touches, TouchesKey, is_found, renewed, said_of}}
+use Rattle.cacache_keep.proofs.Stopped.{Keeps, Look, gained, gains_none}
 
 -- ---- an entry that is found
 
@@ -35,6 +38,23 @@ one_fits key e found false is formed h = h
 all_fit : (key : List ℕ) (found : Option Found) (es : List Entry) → All IsEntry es → Fit key found → Fit key (fold (after_entry key) found es)
 all_fit key found [] all h = h
 all_fit key found (e ∷ es) all h = all_fit key (after_entry key found e) es (All-tail IsEntry e es all) (one_fits key e found (bytes_eq e.key key) refl (All-head IsEntry e es all) h)
+
+-- ---- the key's bucket
+
+-- a step that only looks and failed
+failed_keep : (step : PlainStep) (e : Error) (old new : Option (List LogItem)) → ((answer : PlainAnswer) → Look ((step, answer) ∷ [])) → FailsAt step e old new → Keeps old new
+failed_keep step (IoError fault message) old new looks does = gained old new ((step, answers.Failed fault) ∷ []) does (looks (answers.Failed fault))
+failed_keep step OutOfMemory old new looks (inl same) = record { moves = []; gains = gains_none old new same; stays = λ t. refl }
+failed_keep step OutOfMemory old new looks (inr (fault, does)) = gained old new ((step, answers.Failed fault) ∷ []) does (looks (answers.Failed fault))
+failed_keep step e old new looks fails = absurd fails
+
+-- a reading leaves the tree
+reads_keep : (cache key : List ℕ) (old new : Option (List LogItem)) → ReadsClean cache key old new → Keeps old new
+reads_keep cache key old new (bytes, clean, does) = gained old new ((steps.ReadAll (bucket_path cache key), answers.Bytes bytes) ∷ []) does (tt, tt)
+
+checking_keeps : (cache key : List ℕ) (e : Error) (old new : Option (List LogItem)) → StopsChecking cache key e old new → Keeps old new
+checking_keeps cache key e old new (inl fails) = failed_keep (steps.ReadAll (bucket_path cache key)) e old new (λ answer. (tt, tt)) fails
+checking_keeps cache key e old new (inr (bytes, does, why)) = gained old new ((steps.ReadAll (bucket_path cache key), answers.Bytes bytes) ∷ []) does (tt, tt)
 
 module _ {C N : Type 0} (moments : C → Option (List ℕ)) (cache key : List ℕ) (utf8 : IsUtf8 key) (old new : Env (List LogItem) C N) (logged : IsLog new.store) (cached : IsCache cache old.store) where
   -- ---- a lookup
@@ -71,40 +91,46 @@ module _ {C N : Type 0} (moments : C → Option (List ℕ)) (cache key : List �
     between : List LogItem
     inserts : InsertsKey cache (anew f moment) reply between new.store
 
-  inserted : (f : Found) (moment : ℕ) (reply : Reply) (mid : Option (List LogItem)) → plain_reply reply ≡ reply → Made (commands.Find key) (replies.LookedUp (Some f)) (Some old.store) mid → Made (renewed key f moment) reply mid (Some new.store)
+  inserted : (f : Found) (moment : ℕ) (reply : Reply) (mid read : Option (List LogItem)) → plain_reply reply ≡ reply → Made (commands.Find key) (replies.LookedUp (Some f)) (Some old.store) mid → Keeps mid read → Made (renewed key f moment) reply read (Some new.store)
       → Inserted f moment reply
-  inserted f moment reply mid plain first second =
+  inserted f moment reply mid read plain first stays second =
       let log = old.store ++ map (λ m. Logged m.0 m.1) first.0 in
-      let rest : Made (renewed key f moment) reply (Some (old.store ++ map (λ m. Logged m.0 m.1) first.0)) (Some new.store) = subst (λ x. Made (renewed key f moment) reply x (Some new.store)) first.2 second in
-      let is_log = log_front log new.store (map (λ m. Logged m.0 m.1) rest.0) (some_same new.store _ rest.2) logged in
+      let k : Keeps (Some (old.store ++ map (λ m. Logged m.0 m.1) first.0)) read = subst (λ x. Keeps x read) first.2 stays in
+      let late = log ++ map (λ m. Logged m.0 m.1) k.moves in
+      let rest : Made (renewed key f moment) reply (Some (log ++ map (λ m. Logged m.0 m.1) k.moves)) (Some new.store) = subst (λ x. Made (renewed key f moment) reply x (Some new.store)) k.gains second in
+      let late_log = log_front late new.store (map (λ m. Logged m.0 m.1) rest.0) (some_same new.store _ rest.2) logged in
+      let is_log = log_front log late (map (λ m. Logged m.0 m.1) k.moves) refl late_log in
       let l = looked (replies.LookedUp (Some f)) log refl is_log (first.0, first.1, refl) in
       let finds : found_under cache key old.store ≡ Some f = sym l.2 in
       let es = entries_on (home_of cache) (tree_of old.store) key in
       let fit = subst (Fit key) finds (all_fit key None es (cached.formed (sha1 key)) tt) in
       let has = subst HasIntegrity finds (latest_has key es (cached.formed (sha1 key))) in
       let formed : FormedIfWritten (insertion cache (anew f moment)) = λ none. record { key = utf8; integrity = integrity_utf8 f.integrity; size = fit.1; metadata = fit.2; raw_metadata = fit.3 } in
-      let w = inserts_last cache (anew f moment) reply log new.store has formed l.1.0 (called (renewed key f moment) reply log new.store plain logged rest) in
-      let k = l.1.1 in
+      let same : tree_of (log ++ map (λ m. Logged m.0 m.1) k.moves) ≡ tree_of log = (logs_lead log late k.moves refl late_log).1 ∙ k.stays (tree_of log) in
+      let still = leaves cache log late l.1.0 same (k.moves, refl) in
+      let w = inserts_last cache (anew f moment) reply late new.store has formed still.0 (called (renewed key f moment) reply late new.store plain logged rest) in
+      let one = l.1.1 in
+      let two = still.1 in
       record {
         found = finds;
         same = fit.0;
         sound = w.0;
         others = record {
-          finds = λ other differ. w.2.finds other differ ∙ k.finds other;
-          lies = λ i. w.2.lies i ∙ k.lies i;
-          key = λ other bytes i differ has. w.2.key other bytes i differ (k.key other bytes i has);
-          content = λ i bytes has. w.2.content i bytes (k.content i bytes has);
+          finds = λ other differ. w.2.finds other differ ∙ two.finds other ∙ one.finds other;
+          lies = λ i. w.2.lies i ∙ two.lies i ∙ one.lies i;
+          key = λ other bytes i differ has. w.2.key other bytes i differ (two.key other bytes i (one.key other bytes i has));
+          content = λ i bytes has. w.2.content i bytes (two.content i bytes (one.content i bytes has));
         };
-        between = log;
+        between = late;
         inserts = w.1;
       }
 
   -- ---- a touch
 
   done : (touched : Bool) (found : Option Found) (moment : ℕ) → touched ≡ is_found found → MatchOption found (new.clock ≡ old.clock) (λ f. AsksMoment moments old.clock new.clock moment)
-      → MadeCalls (site_of cache old.base 0) (touch_of key found moment) (Some old.store) (Some new.store) → LeavesTouched moments cache key (Ok touched) old new
+      → TouchesKey (site_of cache old.base 0) key found moment (Some old.store) (Some new.store) → LeavesTouched moments cache key (Ok touched) old new
   done touched None moment is asked calls =
-      let l = looked (replies.LookedUp None) new.store refl logged (subst (λ x. Made (commands.Find key) (replies.LookedUp None) (Some old.store) x) (sym calls.2) calls.1) in
+      let l = looked (replies.LookedUp None) new.store refl logged calls in
       let none : found_under cache key old.store ≡ None = sym l.2 in
       record {
         sound = l.1.0;
@@ -115,7 +141,7 @@ module _ {C N : Type 0} (moments : C → Option (List ℕ)) (cache key : List �
         none = λ lacks. l.0;
       }
   done touched (Some f) moment is asked calls =
-      let a = inserted f moment (replies.Stored f.integrity) calls.0 refl calls.1 (subst (λ x. Made (renewed key f moment) (replies.Stored f.integrity) calls.0 x) (sym calls.2.2) calls.2.1) in
+      let a = inserted f moment (replies.Stored f.integrity) calls.0 calls.1 refl calls.2 (reads_keep cache key calls.0 calls.1 calls.3) calls.4 in
       let leads : found_under cache key new.store ≡ Some (at_moment moment f)
       = a.inserts ∙ ap (λ k. Some (record { key = k; integrity = f.integrity; time = moment; size = f.size; metadata = f.metadata; raw_metadata = f.raw_metadata })) (sym a.same) in
       let is_it : (g : Found) → found_under cache key old.store ≡ Some g → f ≡ g = λ g finds. let both : Some f ≡ Some g = sym a.found ∙ finds in cc in
@@ -133,8 +159,24 @@ module _ {C N : Type 0} (moments : C → Option (List ℕ)) (cache key : List �
   failed e (inl ran) =
       let l = looked (replies.Refused (without_message e)) new.store (ap replies.Refused (plain_error e)) logged ran in
       record { sound = l.1.0; others = all_known l.1.1; tells = tt; anew = λ f finds. tt; keeps = λ i bytes has. tt; none = λ lacks. l.0 }
-  failed e (inr (f, moment, mid, first, second)) =
-      let a = inserted f moment (replies.Refused (without_message e)) mid (ap replies.Refused (plain_error e)) first second in
+  failed e (inr (f, found, first, inl stop)) =
+      let log = old.store ++ map (λ m. Logged m.0 m.1) first.0 in
+      let k : Keeps (Some (old.store ++ map (λ m. Logged m.0 m.1) first.0)) (Some new.store) = subst (λ x. Keeps x (Some new.store)) first.2 (checking_keeps cache key e found (Some new.store) stop) in
+      let is_log = log_front log new.store (map (λ m. Logged m.0 m.1) k.moves) (some_same new.store _ k.gains) logged in
+      let l = looked (replies.LookedUp (Some f)) log refl is_log (first.0, first.1, refl) in
+      let same : tree_of new.store ≡ tree_of log = (logs_lead log new.store k.moves k.gains logged).1 ∙ k.stays (tree_of log) in
+      let still = leaves cache log new.store l.1.0 same (k.moves, some_same new.store _ k.gains) in
+      let one = l.1.1 in
+      let two = still.1 in
+      let known : StaysKnown cache old.store new.store = record {
+        finds = λ other. two.finds other ∙ one.finds other;
+        lies = λ i. two.lies i ∙ one.lies i;
+        key = λ other bytes i has. two.key other bytes i (one.key other bytes i has);
+        content = λ i bytes has. two.content i bytes (one.content i bytes has);
+      } in
+      record { sound = still.0; others = all_known known; tells = tt; anew = λ f finds. tt; keeps = λ i bytes has. tt; none = λ lacks. same ∙ l.0 }
+  failed e (inr (f, mid, first, inr (moment, read, clean, second))) =
+      let a = inserted f moment (replies.Refused (without_message e)) mid read (ap replies.Refused (plain_error e)) first (reads_keep cache key mid read clean) second in
       record { sound = a.sound; others = a.others; tells = tt; anew = λ f finds. tt; keeps = λ i bytes has. tt; none = λ lacks. absurd (let no : Some f ≡ None = sym a.found ∙ lacks in cc) }
 
   by_result : (r : Result Bool Error) → IfOk r (λ touched. Touches (λ log. Some log) moments cache key touched old new) → IfErr r (λ e. StopsTouching (site_of cache old.base 0) key e (Some old.store) (Some new.store))

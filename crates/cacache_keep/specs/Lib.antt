@@ -16,10 +16,15 @@ pub mod Missing
 pub mod Rewriting
 pub mod Syncing
 pub mod Compacting
+pub mod Grace
+pub mod Emptying
+pub mod Dropping
+pub mod Collecting
 pub mod Told
 pub mod Losses
 pub mod Later
 pub mod Limits
+pub mod Confirming
 pub mod Pruning
 pub mod Sparing
 pub mod Touching

@@ -7,7 +7,7 @@ use Rattle.cacache_entry.specs.{Latest.{Found}, View.{found_view}}
 use Rattle.cacache_calls.specs.{declared.{command.Command.{Command}, reply.Reply.{Reply}}, State.{Site}, Table.{opening}, Runs.{Ran, without_message}}
 use Rattle.cacache_calls.specs.declared.reply.Reply.TheVariants as replies
 use Rattle.cacache_laws.specs.trees.Temporary.{total}
-use Rattle.cacache_keep.specs.{declared.{checking.OddLines.TheVariants.{Refuse}, limits.Limits.{Limits}, pruning.{PrunePlan.{PrunePlan}, Pruned.{Pruned}}}, Calls.{MadeCalls, StopsIndex}, Checking.{ReadsIndex, RefusesOdd}, Keeping.{CollectsWith, StopsCollecting}, Limits.{DropsOldest}, Repairing.{tombstone}}
+use Rattle.cacache_keep.specs.{declared.{checking.OddLines.TheVariants.{Refuse}, limits.Limits.{Limits}, pruning.{PrunePlan.{PrunePlan}, Pruned.{Pruned}}}, Calls.{MadeCalls, StopsIndex}, Checking.{ReadsIndex, RefusesOdd}, Confirming.{Confirms, StopsConfirming}, Keeping.{CollectsWith, StopsCollecting}, Limits.{DropsOldest}, Repairing.{tombstone}}
 
 -- how many bytes the contents of these entries have, as the entries say; 2^64 - 1 if there are more
 abbrev pub told_bytes : List Found → ℕ
@@ -81,14 +81,17 @@ StopsPrunePlan site e old new =
 -- ---- a pruning
 
 -- The index is listed, and has no odd line. Of its entries some are dropped and the others kept. The
--- keys of those that are dropped get tombstones, the oldest first. Then the cache is collected
+-- key of each one that is dropped is looked up, and leads to it. Then these keys get tombstones, the
+-- oldest first. Then the cache is collected
 pub record PrunesCache
     (limits : Limits) (site : Site) (entries dropped kept : List Found) (left : ℕ)
     (gone : List (List Hash)) (old new : Option (List LogItem)) : Type 0 where
   pub listed : Option (List LogItem)
   pub planning : PlansPrune limits site entries dropped kept [] old listed
+  pub confirmed : Option (List LogItem)
+  pub confirms : Confirms site dropped listed confirmed
   pub buried : Option (List LogItem)
-  pub entombs : Entombs site dropped listed buried
+  pub entombs : Entombs site dropped confirmed buried
   pub collects : CollectsWith Refuse site left gone buried new
 
 -- so it did, and this tells it
@@ -110,13 +113,21 @@ StopsMarking site dropped e old new =
     ⊎ ((buried : Option (List LogItem)) × Entombs site dropped old buried
     × StopsCollecting Refuse site e buried new)
 
+-- of one without odd lines it ended the lookups of the keys of these entries, or what came after
+abbrev pub StopsCleanPruning :
+    Site → List Found → Error → Option (List LogItem) → Option (List LogItem) → Type 0
+StopsCleanPruning site dropped e old new =
+    StopsConfirming site dropped e old new
+    ⊎ ((confirmed : Option (List LogItem)) × Confirms site dropped old confirmed
+    × StopsMarking site dropped e confirmed new)
+
 -- of a cache that is planned so, the error refused the odd lines before anything changed; or it
--- ended the tombstones of the entries that are dropped, or the collection after them
+-- ended the lookups of the keys of the entries that are dropped, or what came after them
 abbrev pub StopsPruningAfter : Site → List Found → List (List ℕ) → Error
     → Option (List LogItem) → Option (List LogItem) → Type 0
 StopsPruningAfter site dropped odd e old new =
     (RefusesOdd Refuse odd e × (new ≡ old))
-    ⊎ ((odd ≡ []) × StopsMarking site dropped e old new)
+    ⊎ ((odd ≡ []) × StopsCleanPruning site dropped e old new)
 
 -- the error ended the plan, or what came after it
 abbrev pub StopsPruning :
@@ -135,6 +146,10 @@ marked_in limits site e old new (inl plan) = []
 marked_in limits site e old new
     (inr (entries, dropped, kept, odd, listed, plan, inl refused)) = []
 marked_in limits site e old new
-    (inr (entries, dropped, kept, odd, listed, plan, inr (none, inl stop))) = stop.next ∷ stop.done
+    (inr (entries, dropped, kept, odd, listed, plan, inr (none, inl confirming))) = []
 marked_in limits site e old new
-    (inr (entries, dropped, kept, odd, listed, plan, inr (none, inr collecting))) = dropped
+    (inr (entries, dropped, kept, odd, listed, plan, inr (none, inr (confirmed, leads, inl stop)))) =
+    stop.next ∷ stop.done
+marked_in limits site e old new
+    (inr (entries, dropped, kept, odd, listed, plan, inr (none, inr (confirmed, leads, inr late)))) =
+    dropped

@@ -6,7 +6,7 @@ use Rattle.cacache_disk.specs.memory.Replay.{IsLog}
 use Rattle.cacache_entry.specs.Latest.{Found}
 use Rattle.cacache_calls.specs.State.{Site}
 use Rattle.cacache_laws.specs.{Caches.{HasKey, LacksKey}, Keeping.{found_under}, Standing.{IsStanding}}
-use Rattle.cacache_keep.specs.{declared.limits.Limits.{Limits}, Kept.{LeavesTree}, Pruning.{PlansPrune, PrunesCache, StopsPruning, marked_in}}
+use Rattle.cacache_keep.specs.{declared.limits.Limits.{Limits}, Confirming.{Leads}, Kept.{LeavesTree}, Pruning.{PlansPrune, PrunesCache, StopsPruning, marked_in}}
 
 -- everything stands where it may still; the key leads to the entry that it led to, and to the same
 -- bytes
@@ -45,6 +45,15 @@ PrunesDropKeys =
     → home_of site.cache ≡ Some home → IsLog new → IsStanding site.cache old
     → PrunesCache limits site entries dropped kept left gone (Some old) (Some new)
     → HasKeyAmong dropped key → IsStanding site.cache new × LacksKey site.cache key new
+
+-- each entry that was dropped was the one to which its key led
+abbrev pub PrunesDropLed : Type 0
+PrunesDropLed =
+    (limits : Limits) (site : Site) (home : Names) (entries dropped kept : List Found) (left : ℕ)
+    (gone : List (List Hash)) (entry : Found) (old new : List LogItem)
+    → home_of site.cache ≡ Some home → IsLog new → IsStanding site.cache old
+    → PrunesCache limits site entries dropped kept left gone (Some old) (Some new)
+    → Contains dropped entry → Leads (entry, found_under site.cache entry.key old)
 
 -- after one that an error ended each key leads where it led, unless its key got a tombstone, or may have got one
 abbrev pub StoppedPrunesSpareKeys : Type 0

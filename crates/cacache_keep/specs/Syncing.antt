@@ -1,11 +1,11 @@
--- The syncs of the folders above those of buckets, over any store.
-use Rattle.std.specs.Prelude.{◌≡◌, ◌++◌, ℕ, List, [], ◌∷◌, Bool, true, false, Option}
+-- The syncs of the folders above those of buckets, and of all buckets of an index, over any store.
+use Rattle.std.specs.Prelude.{◌≡◌, ◌⊎◌, ◌++◌, ℕ, List, [], ◌∷◌, Bool, true, false, Option}
 use Rattle.cacache_core.specs.declared.errors.Error.{Error, TheVariants.{OutOfMemory}}
 use Rattle.cacache_store.specs.declared.store.answer.Answer.TheVariants as answers
 use Rattle.cacache_store.specs.declared.store.log.LogItem.{LogItem}
 use Rattle.cacache_store.specs.declared.store.step.Step.TheVariants as steps
 use Rattle.cacache_calls.specs.SingleSteps.{Does, FailsAt}
-use Rattle.cacache_keep.specs.Buckets.{index_area_in}
+use Rattle.cacache_keep.specs.{Buckets.{FindsBuckets, StopsFinding, index_area_in}, Rewriting.{StopsSyncingBucket, SyncsBucket}}
 
 -- the folders above those of buckets: these, which the index has, the index, and the cache; none
 -- without one in the index
@@ -49,3 +49,44 @@ abbrev pub StopsAbove : Bool → List ℕ → List (List ℕ) → Error
     → Option (List LogItem) → Option (List LogItem) → Type 0
 StopsAbove true cache tops e old new = StopsInTurn (folders_above cache tops) e old new
 StopsAbove false cache tops e old new = ⊥
+
+-- ---- all buckets of an index
+
+-- the log gained a sync of each of these buckets and of its folder, in turn
+abbrev pub SyncsBuckets :
+    List (List ℕ) → Option (List LogItem) → Option (List LogItem) → Type 0
+SyncsBuckets [] old new = new ≡ old
+SyncsBuckets (p ∷ paths) old new =
+    (next : Option (List LogItem)) × SyncsBucket true p old next × SyncsBuckets paths next new
+
+-- the buckets are found; then they are synced, and the folders that lead to them; none, if it isn't asked for
+abbrev pub SyncsIndex :
+    Bool → List ℕ → Option (List LogItem) → Option (List LogItem) → Type 0
+SyncsIndex true cache old new =
+    (tops paths : List (List ℕ)) × (found done : Option (List LogItem))
+    × FindsBuckets cache tops paths old found × SyncsBuckets paths found done
+    × SyncsAbove true cache tops done new
+SyncsIndex false cache old new = new ≡ old
+
+-- some of these buckets were synced, and the error ended the sync of the next
+pub record StopsBuckets
+    (paths : List (List ℕ)) (e : Error) (old new : Option (List LogItem)) : Type 0 where
+  pub synced : List (List ℕ)
+  pub next : List ℕ
+  pub rest : List (List ℕ)
+  pub split : paths ≡ synced ++ next ∷ rest
+  pub between : Option (List LogItem)
+  pub syncing : SyncsBuckets synced old between
+  pub stop : StopsSyncingBucket true next e between new
+
+-- the error ended the search for the buckets, a sync of one, or a sync of a folder above them
+abbrev pub StopsIndexSync :
+    Bool → List ℕ → Error → Option (List LogItem) → Option (List LogItem) → Type 0
+StopsIndexSync true cache e old new =
+    StopsFinding cache e old new
+    ⊎ ((tops paths : List (List ℕ)) × (found : Option (List LogItem))
+    × FindsBuckets cache tops paths old found
+    × (StopsBuckets paths e found new
+    ⊎ ((done : Option (List LogItem)) × SyncsBuckets paths found done
+    × StopsAbove true cache tops e done new)))
+StopsIndexSync false cache e old new = ⊥

@@ -1,15 +1,19 @@
-//! The call that removes what no entry has.
-ghost use Rattle.std.specs.Prelude.{◌≡◌, IfOk, IfErr};
-ghost use Rattle.cacache_jobs.specs.Sites.{site_of};
-ghost use Rattle.cacache_keep.specs.{declared.checking.OddLines.TheVariants.{Refuse}, Keeping.{CollectsWith, StopsCollecting}};
+//! The calls that remove what no entry has.
+ghost use Rattle.std.specs.Prelude.{◌≡◌, ℕ, [], None, Some, Option, IfOk, IfErr, false};
+ghost use Rattle.cacache_jobs.specs.{Environment.{KeepsRest}, Sites.{site_of}};
+ghost use Rattle.cacache_keep.specs.{declared.checking.OddLines.TheVariants.{Refuse}, Collecting.{CollectsBy, StopsCollectingBy, told_by}, Grace.{LimitedBy}, Keeping.{CollectsWith, StopsCollecting}};
 
 use crate::checking::{OddLines, check};
 use crate::choosing::{Chosen, choose};
+use crate::dropping::{Tally, drop_each};
+use crate::grace::limit_by;
 use crate::removing::remove_each;
+use crate::roots::spare_roots;
+use crate::syncing::sync_index;
 use cacache_core::errors::Result;
 use cacache_core::integrity::Integrity;
 use cacache_store::env::{Clock, Env, Names};
-use cacache_store::store::Store;
+use cacache_store::store::{Stamps, Store};
 
 /// What a collection did.
 #[derive(Debug, Drop)]
@@ -52,8 +56,7 @@ pub fn collect_with<S: Store, C: Clock, N: Names>(
 /// target stays. Whatever else lies among the contents stays.
 ///
 /// A folder of the index that isn't there has no items, so every content is removed then; a link in its place that
-/// leads to nothing is an `IoError`. A link in the index to a folder is followed, as `verify` does, so the contents of the keys
-/// below it stay. Collect a cache while nobody writes to it: a content is stored before its entry.
+/// leads to nothing is an `IoError`. A link in the index to a folder is listed, as `verify` does. Collect a cache while nobody writes to it: a content is stored before its entry.
 /// It asks no content for its size: `plan`, called before it, gives the bytes of each that it will remove.
 ///
 /// A line of the index with a right digest that this crate can't read is odd: another reader may read it, and the content
@@ -76,4 +79,186 @@ pub fn collect<S: Store, C: Clock, N: Names>(
     ensures base { env.new.base ≡ env.old.base }
 {
     collect_with(env, cache, OddLines::Refuse)
+}
+
+/// What a collection with options did: how many contents had which fate; 2^64 - 1 if there are more.
+#[derive(Clone, Copy, Debug, PartialEq, Eq)]
+pub struct Collection {
+    /// How many contents were left since an entry or a further root names them.
+    pub kept: u64,
+    /// How many contents are removed.
+    pub dropped: u64,
+    /// How many contents that nothing names were left for their age.
+    pub young: u64,
+    /// How many such contents were gone when their turn came, since another call removed them.
+    pub gone: u64,
+}
+
+/// How a cache is collected: which contents stay beside those of entries, and what is synced. Contracts see the options.
+#[derive(Clone, Copy)]
+pub struct CollectOpts<'a> {
+    odd: OddLines,
+    grace: Option<u64>,
+    keep: &'a [Integrity],
+    durable: bool,
+}
+
+/// Collects a cache with these options, and spares the contents that changed at the limit or later.
+fn collect_old<S: Stamps, C: Clock, N: Names>(
+    env: &mut Env<S, C, N>,
+    opts: CollectOpts<'_>,
+    limit: Option<u64>,
+    cache: &str,
+) -> Result<Collection>
+    ensures collects { IfOk result (λ c. CollectsBy
+        (told_by opts.entry.odd opts.entry.keep.now opts.entry.durable) limit
+        (site_of cache.now env.old.base 0) c.kept
+        (record { dropped = c.dropped; young = c.young; gone = c.gone })
+        (S.log env.old.store) (S.log env.new.store)) }
+    ensures stops { IfErr result (λ e. StopsCollectingBy
+        (told_by opts.entry.odd opts.entry.keep.now opts.entry.durable) limit
+        (site_of cache.now env.old.base 0) e
+        (S.log env.old.store) (S.log env.new.store)) }
+    ensures rest { KeepsRest env.old env.new }
+{
+    let chosen = choose(env, cache)?;
+    check(env.alloc, opts.odd, chosen.odd.as_slice())?;
+    let Chosen {
+        kept,
+        dropped,
+        odd: _,
+    } = chosen;
+    let unused = dropped.len();
+    let rest = spare_roots(env.alloc, dropped, opts.keep)?;
+    let kept = kept.saturating_add(unused.saturating_sub(rest.len()) as u64);
+    sync_index(env.alloc, &mut env.store, opts.durable, cache)?;
+    let Tally {
+        dropped,
+        young,
+        gone,
+    } = drop_each(env.alloc, &mut env.store, limit, cache, rest.as_slice())?;
+    Ok(Collection {
+        kept,
+        dropped,
+        young,
+        gone,
+    })
+}
+
+impl<'a> CollectOpts<'a> {
+    /// Blank options: odd lines are refused, no content is spared for its age, there are no further roots, and nothing is
+    /// synced.
+    pub fn new() -> CollectOpts<'a>
+        ensures odd { result.odd ≡ Refuse }
+        ensures grace { result.grace ≡ None }
+        ensures keep { result.keep.now ≡ [] }
+        ensures durable { result.durable ≡ false }
+    {
+        CollectOpts {
+            odd: OddLines::Refuse,
+            grace: None,
+            keep: &[],
+            durable: false,
+        }
+    }
+
+    /// With the choice of what to do about odd lines in the index. With `OddLines::Ignore` a content that only such a
+    /// line names is removed, though another reader may need it.
+    pub fn odd(self, odd: OddLines) -> CollectOpts<'a>
+        ensures { result ≡ record self.entry { odd = odd } }
+    {
+        let mut opts = self;
+        opts.odd = odd;
+        opts
+    }
+
+    /// With a grace, in milliseconds: a content stays whose file was last written, moved or given other rights at or
+    /// after the time at which the collection begins, less the grace. The clock is asked once, at the beginning. A
+    /// content is asked for right before its removal, and stays if its store doesn't know when it changed.
+    ///
+    /// With this, puts may run beside a collection if each ends within the grace after its content was moved into
+    /// place: its entry comes before the content is old. A put of bytes that are there already moves a new file into
+    /// place, so it counts as any other. This isn't so for
+    ///
+    /// - a put that takes longer than the grace between the move of its content and its entry
+    /// - a linker that meets an older link: no time of that link changes
+    /// - `touch`, and an insertion without a put, of a content that no entry has
+    ///
+    /// Their keys may lead to no content then. The grace is compared with times of the file system, so it must be longer
+    /// than what that one's clock and this one's differ by.
+    pub fn grace(self, millis: u64) -> CollectOpts<'a>
+        ensures { result ≡ record self.entry { grace = Some millis } }
+    {
+        let mut opts = self;
+        opts.grace = Some(millis);
+        opts
+    }
+
+    /// With further roots: the contents of these integrities stay though no entry may name them, as the outputs that an
+    /// entry lists in its metadata. An integrity with several hashes keeps the content at its address.
+    pub fn keep(self, addresses: &'a [Integrity]) -> CollectOpts<'a>
+        ensures keep { result.keep.now ≡ addresses.now }
+        ensures others { result ≡ record self.entry { keep = result.keep } }
+    {
+        let mut opts = self;
+        opts.keep = addresses;
+        opts
+    }
+
+    /// With the choice of whether what decides is to outlast a loss of power: all buckets of the index, their folders
+    /// and those above them are synced before the first removal. Without it a loss of power after a collection may
+    /// take lines that weren't synced: a key whose content is removed may come back, and a key may be lost whose put
+    /// wasn't durable. A bucket behind a link isn't synced. The removals aren't synced either: after a loss a content
+    /// may be there again.
+    pub fn durable(self, yes: bool) -> CollectOpts<'a>
+        ensures { result ≡ record self.entry { durable = yes } }
+    {
+        let mut opts = self;
+        opts.durable = yes;
+        opts
+    }
+
+    /// Collects a cache as `collect` does, with these options. After each removal the content's folder is removed if it
+    /// is empty, and then the one above it. A folder that can't be removed stays, and that is no error. A put that has
+    /// made a folder and finds it gone fails with `NotFound`. A content that is gone when its turn comes is counted,
+    /// so that two collections may run at once.
+    ///
+    /// Errors are those of `collect`; with `OddLines::Ignore` not the one about odd lines; and if it is durable, `IoError`
+    /// if the buckets couldn't be listed or synced, before anything is removed. A removal that failed for another
+    /// reason than that nothing was there ends the call, and those before it stay done.
+    pub fn collect<S: Stamps, C: Clock, N: Names>(
+        self,
+        env: &mut Env<S, C, N>,
+        cache: &str,
+    ) -> Result<Collection>
+        ensures collects { IfOk result (λ c. (limit : Option ℕ)
+            × LimitedBy C.given self.entry.grace env.old.clock env.new.clock limit
+            × CollectsBy (told_by self.entry.odd self.entry.keep.now self.entry.durable)
+            limit (site_of cache.now env.old.base 0) c.kept
+            (record { dropped = c.dropped; young = c.young; gone = c.gone })
+            (S.log env.old.store) (S.log env.new.store)) }
+        ensures stops { IfErr result (λ e. (limit : Option ℕ)
+            × LimitedBy C.given self.entry.grace env.old.clock env.new.clock limit
+            × StopsCollectingBy
+            (told_by self.entry.odd self.entry.keep.now self.entry.durable)
+            limit (site_of cache.now env.old.base 0) e
+            (S.log env.old.store) (S.log env.new.store)) }
+        ensures names { env.new.names ≡ env.old.names }
+        ensures base { env.new.base ≡ env.old.base }
+    {
+        let limit = limit_by(&mut env.clock, self.grace);
+        collect_old(env, self, limit, cache)
+    }
+}
+
+impl Default for CollectOpts<'_> {
+    /// Blank options.
+    fn default() -> Self
+        ensures odd { result.odd ≡ Refuse }
+        ensures grace { result.grace ≡ None }
+        ensures keep { result.keep.now ≡ [] }
+        ensures durable { result.durable ≡ false }
+    {
+        CollectOpts::new()
+    }
 }

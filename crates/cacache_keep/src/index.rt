@@ -104,7 +104,7 @@ fn read_folders<S: Store>(
 }
 
 /// The entries of all keys, and the buckets with odd lines. Each bucket is read once. An index whose folder isn't there
-/// has none. A link in the index to a folder is followed after the walk through the index.
+/// has none. A link in the index to a folder is listed after the walk through the index; real folders refuse that listing.
 pub(crate) fn read_index<S: Store>(alloc: Global, store: &mut S, cache: &str) -> Result<Index>
     ensures reads { IfOk result (λ index. (base : List ℕ) → ReadsIndex (site_of cache.now base 0)
         index.entries.items index.odd.items (S.log store.old) (S.log store.new)) }

@@ -1,4 +1,7 @@
 //! What is damaged or missing in a cache, and the removal of contents that no entry has.
+//!
+//! A store of real folders goes on holding the folders of these calls open, eight at most, until a listing or a clearing ends.
+//! A caller whose cache may be removed and made anew meanwhile calls `env.store.end_walks()` after them.
 #![tactic(auto)]
 
 mod asking;
@@ -8,6 +11,10 @@ mod checking;
 mod choosing;
 mod collecting;
 mod compacting;
+mod confirming;
+mod dropping;
+mod emptying;
+mod grace;
 mod index;
 mod later;
 mod laws;
@@ -22,6 +29,7 @@ mod reading;
 mod removing;
 mod repairing;
 mod rewriting;
+mod roots;
 mod settling;
 mod sparing;
 mod sweeping;
@@ -32,7 +40,7 @@ mod verifying;
 mod walking;
 
 pub use checking::OddLines;
-pub use collecting::{Collected, collect, collect_with};
+pub use collecting::{CollectOpts, Collected, Collection, collect, collect_with};
 pub use compacting::{CompactOpts, Compacted, compact};
 pub use later::later_laws;
 pub use laws::keep_laws;

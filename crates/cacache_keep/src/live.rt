@@ -32,7 +32,7 @@ fn addresses_of(alloc: Global, entries: &[Found]) -> Result<Vec<Hash>, AllocErro
 }
 
 /// Puts addresses in order.
-fn sort(live: &mut Vec<Hash>)
+pub(crate) fn sort(live: &mut Vec<Hash>)
     ensures same { (h : Hash) → Contains live.new.items h ↔ Contains live.old.items h }
     ensures order { IsSorted hash_cmp live.new.items }
 {
@@ -49,7 +49,7 @@ pub(crate) fn is_live(live: &[Hash], address: &Hash) -> bool
 }
 
 /// The addresses that aren't among the live ones.
-fn others(
+pub(crate) fn others(
     alloc: Global,
     addresses: Vec<Integrity>,
     live: &[Hash],

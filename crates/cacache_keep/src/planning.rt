@@ -91,7 +91,7 @@ fn sizes_of<S: Store>(
 ///
 /// Errors are those of `content::read::list`, the first error among the items of the index, and an `IoError` if a
 /// content didn't give its size, such as a link to a folder. `OutOfMemory` may come at any time. A link in the index to a
-/// folder is followed, as `verify` does.
+/// folder is listed, as `verify` does.
 pub fn plan<S: Store, C: Clock, N: Names>(env: &mut Env<S, C, N>, cache: &str) -> Result<Planned>
     ensures plans { IfOk result (λ p. PlansAs (site_of cache.now env.old.base 0) p
         (S.log env.old.store) (S.log env.new.store)) }

@@ -6,6 +6,7 @@ ghost use Rattle.cacache_keep.specs.Pruning.{Entombs, PlansPruneAs, PrunesAs, St
 
 use crate::checking::{OddLines, check};
 use crate::collecting::{Collected, collect};
+use crate::confirming::confirm;
 use crate::index::{Index, read_index};
 use crate::limits::{Choice, Limits, bytes_of};
 use cacache_calls::Found;
@@ -114,8 +115,11 @@ pub fn plan_prune<S: Store, C: Clock, N: Names>(
 /// finds nothing then; after that the cache is collected by `collect`.
 ///
 /// Bytes are counted as the entries say, and no content is asked for its size. So if two entries share a content, it counts
-/// twice. A content that no entry leads to is removed too, and doesn't count. If an entry that is dropped lies in another
-/// key's bucket, where its key's lookup doesn't find it, it stays, and so does its content.
+/// twice. A content that no entry leads to is removed too, and doesn't count.
+///
+/// Before the first tombstone each of these keys is looked up. If a lookup doesn't find the very entry that would be dropped,
+/// nothing changes: the call ends with an `IoError` of `Unsupported`, which names the first such key. Such an entry lies in a
+/// copy of a bucket or in another key's bucket, and its tombstone could hide what the key leads to.
 ///
 /// Prune a cache while nobody writes to it: a key that is written again meanwhile may lose its new entry, and a content is
 /// stored before its entry.
@@ -124,8 +128,8 @@ pub fn plan_prune<S: Store, C: Clock, N: Names>(
 /// such a line isn't pruned: the call ends with an `IoError` of `Unsupported`, which names the first such bucket, before it
 /// changes anything.
 ///
-/// Errors are those of `plan_prune`, that one, those of a tombstone, and those of `collect`. The keys before the error have
-/// tombstones then. `OutOfMemory` may come at any time.
+/// Errors are those of `plan_prune`, these two, those of a lookup or a tombstone, and those of `collect`. The keys before the
+/// error have tombstones then. `OutOfMemory` may come at any time.
 pub fn prune<S: Store, C: Clock, N: Names>(
     env: &mut Env<S, C, N>,
     cache: &str,
@@ -148,6 +152,7 @@ pub fn prune<S: Store, C: Clock, N: Names>(
         odd: _,
     } = plan;
     let_go(kept);
+    confirm(env, cache, dropped.as_slice())?;
     entomb(env, cache, dropped.as_slice())?;
     let collected = collect(env, cache)?;
     Ok(Pruned {

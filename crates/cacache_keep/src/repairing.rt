@@ -95,7 +95,7 @@ pub fn repair_with<S: Store, C: Clock, N: Names>(
 /// Errors are the first among the items of the index, then that one, those of `verify` about contents, of a removal, of
 /// the second walk and of a tombstone, and the one about a content that may be there. Contents before the error are
 /// removed then, and keys before it have tombstones. `OutOfMemory` may come at any time. A link in the index to a folder
-/// is followed, as `verify` does. The tombstone of a key below it goes to the bucket that a lookup of the key reads.
+/// is listed, as `verify` does. The tombstone of a key below it goes to the bucket that a lookup of the key reads.
 pub fn repair<S: Store, C: Clock, N: Names>(env: &mut Env<S, C, N>, cache: &str) -> Result<Repaired>
     ensures repairs { IfOk result (λ r. RepairsAs Refuse (site_of cache.now env.old.base 0) r
         (S.log env.old.store) (S.log env.new.store)) }

@@ -137,7 +137,7 @@ fn move_to<S: Store>(alloc: Global, store: &mut S, file: S::Temp, path: &Text) -
 }
 
 /// The folder that holds what is at the path.
-fn folder_of(alloc: Global, path: &Text) -> std::result::Result<Text, AllocError>
+pub(crate) fn folder_of(alloc: Global, path: &Text) -> std::result::Result<Text, AllocError>
     ensures { IfOk result (λ folder. folder ≡ folder_of_path path.now) }
 {
     match Path::new(path.as_str()).parent() {

@@ -1,13 +1,15 @@
 //! What a pruning leaves, on any store in memory.
-ghost use Rattle.cacache_keep.specs.Sparing.{PrunePlansLeave, PrunesDropKeys, PrunesSpareKeys, StoppedPrunesSpareKeys};
+ghost use Rattle.cacache_keep.specs.Sparing.{PrunePlansLeave, PrunesDropKeys, PrunesDropLed, PrunesSpareKeys, StoppedPrunesSpareKeys};
 
 /// A plan of a pruning leaves the tree as it is (`plans`). After a pruning of a store in memory where everything stands where
 /// it may, as in a cache or after a loss of power, each key that led to bytes leads to the same entry and the same bytes,
-/// unless an entry that was dropped has it (`keys`). So it does after a pruning that an error ended, wherever that was, unless
+/// unless an entry that was dropped has it (`keys`). The key of such an entry led to that entry (`led`), and leads to nothing
+/// then (`drops`). Each other key leads where it led also after a pruning that an error ended, wherever that was, unless
 /// its key got a tombstone before that, or the tombstone was the call that failed (`stopped`).
 pub fn prune_laws()
     ensures plans { PrunePlansLeave }
     ensures keys { PrunesSpareKeys }
     ensures drops { PrunesDropKeys }
+    ensures led { PrunesDropLed }
     ensures stopped { StoppedPrunesSpareKeys }
 {}

@@ -1,10 +1,13 @@
-//! The folders above those of buckets, which a durable compaction syncs once each.
-ghost use Rattle.std.specs.Prelude.{◌≡◌, IfOk, IfErr, OnOk};
+//! The folders above those of buckets, which a durable compaction syncs once each, and all buckets of an index, which a
+//! durable collection syncs before it removes anything.
+ghost use Rattle.std.specs.Prelude.{◌≡◌, IfOk, IfErr, OnOk, true};
 ghost use Rattle.cacache_store.specs.declared.store.answer.Answer.TheVariants as answers;
 ghost use Rattle.cacache_store.specs.declared.store.step.Step.TheVariants as steps;
 ghost use Rattle.cacache_calls.specs.SingleSteps.{Does, FailsAt};
-ghost use Rattle.cacache_keep.specs.Syncing.{StopsAbove, StopsInTurn, SyncsAbove, SyncsInTurn, folders_above as folders_above_of};
+ghost use Rattle.cacache_keep.specs.Syncing.{StopsAbove, StopsBuckets, StopsIndexSync, StopsInTurn, SyncsAbove, SyncsBuckets, SyncsIndex, SyncsInTurn, folders_above as folders_above_of};
 
+use crate::buckets::{FoundBuckets, buckets_of};
+use crate::rewriting::sync_bucket;
 use cacache_calls::answers::done_of;
 use cacache_core::errors::Result;
 use cacache_core::paths::{INDEX_AREA, join};
@@ -81,4 +84,48 @@ pub(crate) fn sync_above<S: Store>(
     }
     let folders = folders_above(alloc, cache, tops)?;
     sync_each(alloc, store, folders.as_slice())
+}
+
+/// Syncs the buckets at these paths and their folders, in turn.
+fn sync_buckets<S: Store>(alloc: Global, store: &mut S, paths: &[Text]) -> Result<()>
+    ensures syncs { OnOk result
+        (SyncsBuckets paths.now (S.log store.old) (S.log store.new)) }
+    ensures stops { IfErr result
+        (λ e. StopsBuckets paths.now e (S.log store.old) (S.log store.new)) }
+{
+    for path in paths {
+        sync_bucket(alloc, store, true, path)?;
+    }
+    Ok(())
+}
+
+/// Syncs all buckets of the cache's index, and the folders that lead to them.
+fn sync_all<S: Store>(alloc: Global, store: &mut S, cache: &str) -> Result<()>
+    ensures syncs { OnOk result
+        (SyncsIndex true cache.now (S.log store.old) (S.log store.new)) }
+    ensures stops { IfErr result
+        (λ e. StopsIndexSync true cache.now e (S.log store.old) (S.log store.new)) }
+{
+    let FoundBuckets { tops, paths } = buckets_of(alloc, store, cache)?;
+    sync_buckets(alloc, store, paths.as_slice())?;
+    sync_above(alloc, store, true, cache, tops)?;
+    Ok(())
+}
+
+/// The same, if that is asked for.
+pub(crate) fn sync_index<S: Store>(
+    alloc: Global,
+    store: &mut S,
+    durable: bool,
+    cache: &str,
+) -> Result<()>
+    ensures syncs { OnOk result
+        (SyncsIndex durable cache.now (S.log store.old) (S.log store.new)) }
+    ensures stops { IfErr result
+        (λ e. StopsIndexSync durable cache.now e (S.log store.old) (S.log store.new)) }
+{
+    if !durable {
+        return Ok(());
+    }
+    sync_all(alloc, store, cache)
 }

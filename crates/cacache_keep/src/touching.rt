@@ -1,16 +1,21 @@
 //! The call that makes a key's entry a new one.
-ghost use Rattle.std.specs.Prelude.{◌≡◌, IfOk, IfErr};
+ghost use Rattle.std.specs.Prelude.{◌≡◌, IfOk, IfErr, OnOk};
 ghost use Rattle.cacache_entry.specs.View.{found_view};
 ghost use Rattle.cacache_jobs.specs.Sites.{site_of};
-ghost use Rattle.cacache_keep.specs.Touching.{StopsTouching, Touches, said_of};
+ghost use Rattle.cacache_keep.specs.Touching.{ReadsClean, StopsChecking, StopsTouching, Touches, said_of};
 
+use crate::checking::{OddLines, check};
+use crate::odd::has_odd;
+use crate::settling::read;
 use cacache_core::errors::Result;
 use cacache_entry::Metadata;
+use cacache_jobs::bucket_path;
 use cacache_store::env::{Clock, Env, Names};
 use cacache_store::store::Store;
 use cacache_sync::index::find;
 use cacache_sync::put::index::insert;
 use cacache_sync::put::opts::WriteOpts;
+use std::alloc::Global;
 
 /// What the entry says of its content, as options of another entry.
 fn opts_of(found: Metadata) -> WriteOpts
@@ -34,14 +39,33 @@ fn opts_of(found: Metadata) -> WriteOpts
     }
 }
 
+/// Makes sure that the key's bucket has no odd line.
+fn check_bucket<S: Store>(alloc: Global, store: &mut S, cache: &str, key: &str) -> Result<()>
+    ensures clean { OnOk result
+        (ReadsClean cache.now key.now (S.log store.old) (S.log store.new)) }
+    ensures stops { IfErr result
+        (λ e. StopsChecking cache.now key.now e (S.log store.old) (S.log store.new)) }
+{
+    let path = bucket_path(alloc, cache, key)?;
+    let bytes = read(alloc, store, &path)?;
+    if has_odd(alloc, bytes.as_slice())? {
+        return check(alloc, OddLines::Refuse, &[path]);
+    }
+    Ok(())
+}
+
 /// Marks a key as used now, so that `prune` counts it as new: it adds an entry with the clock's time that says of the
 /// content what the key's entry says, with the same size and metadata. Returns whether the key has an entry; if it has
 /// none, nothing changes. The content isn't asked for. The line isn't synced: a loss of power may leave the old entry.
 ///
 /// If the key is written by somebody else between the lookup and the new entry, that one hides what was written.
 ///
-/// Errors are those of `metadata_sync`, with which nothing changes, and then those of `index::insert`, with which the key
-/// still leads where it led unless the whole line was appended.
+/// A line of the key's bucket with a right digest that this crate can't read is odd: it may be a newer entry of the key, which
+/// another reader finds. So a key whose bucket has such a line isn't touched: the call ends with an `IoError` of `Unsupported`,
+/// which names the bucket, and nothing changes.
+///
+/// Errors are those of `metadata_sync`, that one, and an `IoError` if the bucket couldn't be read again, with which nothing
+/// changes; and then those of `index::insert`, with which the key still leads where it led unless the whole line was appended.
 pub fn touch<S: Store, C: Clock, N: Names>(
     env: &mut Env<S, C, N>,
     cache: &str,
@@ -57,6 +81,7 @@ pub fn touch<S: Store, C: Clock, N: Names>(
     let Some(found) = find(env, cache, key)? else {
         return Ok(false);
     };
+    check_bucket(env.alloc, &mut env.store, cache, key)?;
     let _integrity = insert(env, cache, key, opts_of(found))?;
     Ok(true)
 }

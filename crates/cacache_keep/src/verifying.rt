@@ -47,8 +47,8 @@ pub struct Verdict {
 /// there has no items; a link in its place that leads to nothing is an `IoError`. `OutOfMemory` may
 /// come at any time.
 ///
-/// A link in the index to a folder is followed after the walk through the index, and the buckets below it count as the
-/// index's own. If a link below it leads on to a folder, that is an `IoError` of `IsADirectory`, which names the link.
+/// A link in the index to a folder is listed after the walk through the index. Real folders and a disk in memory refuse that,
+/// which is an `IoError` that names the link. On a store that lists it, the buckets below it count as the index's own.
 pub fn verify<S: Store, C: Clock, N: Names>(env: &mut Env<S, C, N>, cache: &str) -> Result<Verdict>
     ensures verifies { IfOk result (λ v. VerifiesAs (site_of cache.now env.old.base 0) v
         (S.log env.old.store) (S.log env.new.store)) }

@@ -27,7 +27,7 @@ module _ (site : Site) (home : Names) (old new : List LogItem) (is : home_of sit
       subst (λ (f : Option Names). latest key (entries_on f (tree_of new) key) ≡ latest key (entries_on f (tree_of old) key)) (sym is)
       (ap (λ o. latest key (list_of o)) same)
 
-  lies_same : (i : List Hash) (h : Hash) → address i ≡ Some h → content_in home (tree_of new) h ≡ content_in home (tree_of old) h → lies_under site.cache i new ≡ lies_under site.cache i old
+  pub lies_same : (i : List Hash) (h : Hash) → address i ≡ Some h → content_in home (tree_of new) h ≡ content_in home (tree_of old) h → lies_under site.cache i new ≡ lies_under site.cache i old
   lies_same i h at same =
       subst (λ (f : Option Names). blob_at (value_of_tree f (tree_of new)) (address i) ≡ blob_at (value_of_tree f (tree_of old)) (address i)) (sym is)
       (subst (λ (a : Option Hash). blob_at (value_of_tree (Some home) (tree_of new)) a ≡ blob_at (value_of_tree (Some home) (tree_of old)) a) (sym at) same)

@@ -104,7 +104,7 @@ removed_by cache (h ∷ hs) t a = (sym a.0, removed_by cache hs (apply t (Remove
 
 -- ---- those that no entry has
 
-unused_on : (b : Bool) (h : Hash) (F : List (List Hash)) (G : List Hash) → F ≡ map (λ x. x ∷ []) G → cond b ((h ∷ []) ∷ F) F ≡ map (λ x. x ∷ []) (cond b (h ∷ G) G)
+pub unused_on : (b : Bool) (h : Hash) (F : List (List Hash)) (G : List Hash) → F ≡ map (λ x. x ∷ []) G → cond b ((h ∷ []) ∷ F) F ≡ map (λ x. x ∷ []) (cond b (h ∷ G) G)
 unused_on true h F G e = ap (λ l. (h ∷ []) ∷ l) e
 unused_on false h F G e = e
 

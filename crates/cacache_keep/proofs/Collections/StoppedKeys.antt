@@ -38,7 +38,7 @@ module _ (site : Site) where
   contents_keep : (addresses : List (List Hash)) (strange : List (List ℕ)) (old new : Option (List LogItem)) → ListsContents site.cache addresses strange old new → Keeps old new
   contents_keep addresses strange old new c = gained old new c.0 c.1 (folders_look (top_folder (content_area_in site.cache) ∷ []) c.0 c.2)
 
-  early_keeps : (e : Error) (old new : Option (List LogItem)) → StopsEarly site e old new → Keeps old new
+  pub early_keeps : (e : Error) (old new : Option (List LogItem)) → StopsEarly site e old new → Keeps old new
   early_keeps e old new (inl (moves, gains, stops)) = gained old new moves gains (stops_look most (top_folder (content_area_in site.cache) ∷ []) moves e stops)
   early_keeps e old new (inr (addresses, strange, found, contents, reading)) = then_keeps old found new (contents_keep addresses strange old found contents) (reading_keeps e found new reading)
 
@@ -62,15 +62,15 @@ single : (h : Hash) → IsHash h → IsIntegrity (h ∷ [])
 single h is = record { nonempty = omega arith; ordered = ordered h h.algorithm refl; hashes = All-cons IsHash h [] is (All-nil IsHash) }
 
 -- addresses of which the first are gone, and the next one was to go
-record Parts (gone : List (List Hash)) (next : List Hash) (us : List Hash) : Type 0 where
-  hashes : List Hash
-  hash : Hash
-  gone_are : gone ≡ map (λ h. h ∷ []) hashes
-  next_is : next ≡ hash ∷ []
-  first : (x : Hash) → Member x hashes → Member x us
-  one : Member hash us
+pub record Parts (gone : List (List Hash)) (next : List Hash) (us : List Hash) : Type 0 where
+  pub hashes : List Hash
+  pub hash : Hash
+  pub gone_are : gone ≡ map (λ h. h ∷ []) hashes
+  pub next_is : next ≡ hash ∷ []
+  pub first : (x : Hash) → Member x hashes → Member x us
+  pub one : Member hash us
 
-parts : (gone : List (List Hash)) (next : List Hash) (rest : List (List Hash)) (us : List Hash) → map (λ h. h ∷ []) us ≡ gone ++ next ∷ rest → Parts gone next us
+pub parts : (gone : List (List Hash)) (next : List Hash) (rest : List (List Hash)) (us : List Hash) → map (λ h. h ∷ []) us ≡ gone ++ next ∷ rest → Parts gone next us
 parts [] next rest (u ∷ us) e = record { hashes = []; hash = u; gone_are = refl; next_is = cc; first = λ x m. absurd m; one = inl refl }
 parts (g ∷ gone) next rest (u ∷ us) e =
     let tail : map (λ h. h ∷ []) us ≡ gone ++ next ∷ rest = cc in

@@ -3,12 +3,11 @@ use Rattle.std.proofs.{Common.{◌≡◌, ℕ, List, Some, refl}, lemmas.Result.
 use Rattle.cacache_store.specs.declared.store.log.LogItem.{LogItem}
 use Rattle.cacache_disk.specs.memory.Replay.{shown, tree_of}
 use Rattle.cacache_calls.specs.declared.command.Source.TheVariants.{Key}
-use Rattle.cacache_sync.specs.{declared.ways.{Exported.{Exported, TheVariants.{Copied, HardLinked, Reflinked}}, ExportMode.TheVariants.{Own}}, Ways.{export_reply}}
+use Rattle.cacache_sync.specs.{declared.ways.{Exported.{Exported, TheVariants.{Copied, HardLinked}}, ExportMode.TheVariants.{Own}}, Ways.{export_reply}}
 use Rattle.cacache_laws.specs.Exported.{Arrives}
 use Rattle.uses_keep.proofs.several.export_own.Goals as goal
 
 there : (bytes to : List ℕ) (e : Exported) (old new : List LogItem) → Arrives bytes to (export_reply e) old new → shown (tree_of new) to ≡ Some bytes
-there bytes to Reflinked old new h = h
 there bytes to HardLinked old new h = h
 there bytes to (Copied count) old new h = h.0
 
@@ -16,7 +15,7 @@ pub returns : goal.returns
 returns g c =
     let old = c.args.env.now in
     let exported = c.export_sync-exported in
-    let out = c.after_export.ensures (Key c.args.key.now) Own old c.requires.apart tt c.requires.cache exported.ensures.tries in
+    let out = c.after_export.ensures (Key c.args.key.now) Own old c.requires.apart tt c.requires.cache exported.ensures.exports in
     record {
       leaves = out.leaves;
       own = exported.ensures.own refl;
