@@ -3,7 +3,7 @@ use Rattle.std.specs.Prelude.{ℕ, List, ◌++◌, codes}
 
 -- what is said to wrong words
 abbrev pub usage_text : List ℕ
-usage_text = codes "usage: cacache-keep verify [--list]|collect [--anyway]|plan|sweep|repair [--anyway]|compact [--durable] CACHE | prune|plan-prune BYTES SECONDS CACHE\n"
+usage_text = codes "usage: cacache-keep verify|collect CACHE\n"
 
 -- a line for each word
 abbrev pub words_text : List ℕ

@@ -5,12 +5,10 @@ ghost use Rattle.cacache_program.specs.KeepAbout.{help_text, usage_text, version
 use crate::about::About;
 
 /// What the program says to wrong words.
-pub const USAGE: &str =
-    "usage: cacache-keep verify [--list]|collect [--anyway]|plan|sweep|repair [--anyway]|compact [--durable] CACHE | prune|plan-prune BYTES SECONDS CACHE\n";
+pub const USAGE: &str = "usage: cacache-keep verify|collect CACHE\n";
 
 /// What the program says to `--help`: the usage, and a line for each word.
-pub const HELP: &str =
-    "usage: cacache-keep verify [--list]|collect [--anyway]|plan|sweep|repair [--anyway]|compact [--durable] CACHE | prune|plan-prune BYTES SECONDS CACHE
+pub const HELP: &str = "usage: cacache-keep verify|collect CACHE
   verify CACHE   counts good and damaged contents, entries without one, and other files;
                  the status is 3 if there are any but good contents
   verify --list CACHE
