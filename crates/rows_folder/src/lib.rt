@@ -1,7 +1,5 @@
 //! Rows on real folders as a store, on the system's clock, on the numbers of a process, and on a store
 //! over a system in memory. The head of `folder.rows` says what they are.
-//!
-//! The module `system` tries random steps on real folders and on a disk in memory.
 #![tactic(auto)]
 
 mod devices;
@@ -12,7 +10,6 @@ mod memory;
 mod place;
 mod root;
 mod steps;
-pub mod system;
 mod texts;
 mod trial;
 mod watched;

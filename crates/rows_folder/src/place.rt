@@ -6,6 +6,7 @@ use crate::watched_file::Notes;
 use crate::ways::Ways;
 use cacache_core::keeping::let_go;
 use cacache_folder::{FolderStore, SystemFile, SystemStore, SystemTemp};
+use cacache_store::store::Store;
 use cacache_system::{Host, System};
 use rows::Flaw;
 use rows::words::{cut, number_of};
@@ -61,6 +62,10 @@ impl<Y: System + AllocGlobal + Clone + Drop> Stand<Y> {
     fn came(&mut self, alloc: Global, root: &str, words: &str) -> Result<String, Flaw> {
         if words == "remove" {
             return removed(alloc, self.held.temp.take());
+        }
+        if words == "end" {
+            self.store.end_walks();
+            return Ok(String::from_str(alloc, "ended")?);
         }
         if words == "reason" {
             return Ok(shown_reason(alloc, self.store.reason())?);

@@ -18,6 +18,9 @@ pub(crate) fn taken(notes: &Notes, alloc: Global) -> String {
         .unwrap_or(String::new(alloc))
 }
 
+/// Where the system has the open files of a process.
+const OPEN: &str = "/proc/self/fd/";
+
 /// The system's runtime, but its files behave in ways of their own. No memory is found to open a file `full`. A file
 /// with a name that begins with `bare` has no number, and five bytes if its ways give no size. A file `kept` isn't removed,
 /// a folder `shy` is made and said to be refused, and a device is in a folder `special`. The names of each folder are
@@ -42,10 +45,27 @@ impl Watched {
         Ok((watched, notes))
     }
 
+    /// A path that leads through an open folder as rows show it: the folder's own path, `//` and the rest. Any other as
+    /// it is.
+    fn shown(&self, path: &str) -> io::Result<String> {
+        let alloc = self.host.alloc();
+        let Some(rest) = path.strip_prefix(OPEN) else {
+            return Ok(String::from_str(alloc, path)?);
+        };
+        let (number, rest) = rest.split_once('/').unwrap_or((rest, ""));
+        let link = format!(in alloc; "{OPEN}{number}")?;
+        let folder = self.host.read_link(alloc, link.as_str())?.into_string();
+        Ok(format!(in alloc; "{folder}//{rest}")?)
+    }
+
     /// Notes a call on some paths, and refuses it if such calls are refused.
     fn asked(&self, call: &str, paths: &[&str]) -> io::Result<()> {
         if self.ways.paths {
-            note_paths(&self.notes, call, paths)?;
+            let mut shown = Vec::new(self.host.alloc());
+            for path in paths {
+                shown.push(self.shown(path)?)?;
+            }
+            note_paths(&self.notes, call, shown.as_slice())?;
         } else {
             note(&self.notes, call)?;
         }
@@ -93,7 +113,8 @@ impl Files for Watched {
             "open_dir"
         };
         self.asked(call, &[path])?;
-        Ok(MadeUp::new(path, self.notes.clone()?))
+        let shown = self.shown(path)?;
+        Ok(MadeUp::new(shown.as_str(), self.notes.clone()?))
     }
 
     fn metadata(&self, path: &str) -> io::Result<Metadata> {
@@ -107,7 +128,7 @@ impl Files for Watched {
     fn symlink_metadata(&self, path: &str) -> io::Result<Metadata> {
         self.asked("symlink_metadata", &[path])?;
         failing(self.ways.fault)?;
-        let is_special = path.contains("/special/");
+        let is_special = self.shown(path)?.contains("/special//");
         self.host
             .symlink_metadata(if is_special { "/dev/null" } else { path })
     }

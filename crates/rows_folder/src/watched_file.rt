@@ -6,6 +6,7 @@ use std::cell::RefCell;
 use std::fs::{File, Metadata, OpenFile, Permissions};
 use std::io;
 use std::io::{ErrorKind, Read, Seek, SeekFrom, Write};
+use std::os::fd::{AsRawFd, RawFd};
 use std::rc::Rc;
 
 /// What was asked, with a `;` after each call.
@@ -24,12 +25,12 @@ fn note_path(notes: &mut String, path: &str) -> io::Result<()> {
 }
 
 /// Notes a call with its paths.
-pub(crate) fn note_paths(notes: &Notes, call: &str, paths: &[&str]) -> io::Result<()> {
+pub(crate) fn note_paths(notes: &Notes, call: &str, paths: &[String]) -> io::Result<()> {
     if let Ok(mut notes) = notes.try_borrow_mut() {
         notes.push_str(call)?;
         for path in paths {
             notes.push(' ')?;
-            note_path(&mut notes, path)?;
+            note_path(&mut notes, path.as_str())?;
         }
         notes.push(';')?;
     }
@@ -55,6 +56,12 @@ pub(crate) struct WatchedFile {
     pub(crate) file: File,
     pub(crate) ways: Ways,
     pub(crate) notes: Notes,
+}
+
+impl AsRawFd for WatchedFile {
+    fn as_raw_fd(&self) -> RawFd {
+        self.file.as_raw_fd()
+    }
 }
 
 impl WatchedFile {
