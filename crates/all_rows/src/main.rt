@@ -12,6 +12,7 @@ mod leavings;
 use leavings::{names_here, remove_others};
 use std::alloc::AllocGlobal;
 use std::env::args;
+use std::os::fd::AsRawFd;
 use std::process::ExitCode;
 use std::random::RandomSource;
 use std::rt::Files;
@@ -31,18 +32,17 @@ fn name_of(path: &str) -> &str {
 fn all_hold<R>(rt: &R, host: &HostRuntime, name: &str, rows: &str) -> io::Result<bool>
 where
     R: Threads + Wait + Clock + RandomSource + Files + AllocGlobal + Print + Clone + Drop + Sync,
+    R::File: AsRawFd,
 {
     match name {
         "core" => rows_steps::values::all_hold(host, rows),
         "folder" => rows_folder::all_hold(host, rows),
         "steps" => rows_steps::all_hold(host, rows),
-        "world" => rows_world::all_hold(host, rows),
         "loss" => rows_world::losses::all_hold(host, rows),
         "hostile" => rows_hostile::all_hold(host, rows),
         "polled" => rows_polled::all_hold(rt, rows),
         "public" => rows_public::all_hold(rt, host, rows),
         "keep" => rows_public::keep::all_hold(host, rows),
-        "system" => rows_folder::system::all_hold(host, rows),
         _ => {
             println!(host; "no rows have this name")?;
             Ok(false)
@@ -54,6 +54,7 @@ where
 fn holds<R>(rt: &R, host: &HostRuntime, path: &str) -> io::Result<bool>
 where
     R: Threads + Wait + Clock + RandomSource + Files + AllocGlobal + Print + Clone + Drop + Sync,
+    R::File: AsRawFd,
 {
     let name = name_of(path);
     println!(host; "== {name}")?;
@@ -68,6 +69,7 @@ where
 fn each_holds<R>(rt: &R, host: &HostRuntime) -> io::Result<bool>
 where
     R: Threads + Wait + Clock + RandomSource + Files + AllocGlobal + Print + Clone + Drop + Sync,
+    R::File: AsRawFd,
 {
     let mut all = true;
     for path in args(host)?.skip(1) {

@@ -286,4 +286,7 @@ impl Store for Faulty {
             }
         }
     }
+
+    /// Does nothing: no folder is ever listed.
+    fn end_walks(&mut self) {}
 }

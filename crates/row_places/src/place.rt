@@ -5,6 +5,7 @@ use cacache_folder::FolderStore;
 use cacache_store::env::{Clock, Env, Names};
 use cacache_store::store::Store;
 use std::alloc::{AllocError, AllocGlobal, Global};
+use std::os::fd::AsRawFd;
 use std::rt::Files;
 use std::{fs, io};
 
@@ -63,6 +64,7 @@ pub fn in_memory(alloc: Global) -> Result<On<MemStore>, AllocError> {
 pub fn in_folders<R>(rt: &R) -> io::Result<On<FolderStore<R>>>
 where
     R: Files + AllocGlobal + Clone + Drop,
+    R::File: AsRawFd,
 {
     let here = fs::canonicalize(rt, ".")?;
     let (own, here) = beside(rt.clone(), here)?;

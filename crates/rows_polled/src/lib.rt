@@ -24,6 +24,7 @@ mod writers;
 use places::Places;
 use std::alloc::AllocGlobal;
 use std::io;
+use std::os::fd::AsRawFd;
 use std::random::RandomSource;
 use std::rt::Files;
 use std::sync::Wait;
@@ -32,6 +33,7 @@ use std::sync::Wait;
 pub fn all_hold<R>(rt: &R, rows: &str) -> io::Result<bool>
 where
     R: Wait + RandomSource + Files + AllocGlobal + Print + Clone + Drop,
+    R::File: AsRawFd,
 {
     let mut places = Places::new(rt)?;
     rows::all_hold(rt, rows, &mut places)

@@ -11,6 +11,7 @@ use rows::words::{column, cut, number_of, word_of};
 use rows::{Flaw, Outcome, Trial};
 use std::alloc::Global;
 use std::io;
+use std::os::fd::AsRawFd;
 use std::random::RandomSource;
 use std::rt::Files;
 use std::sync::Wait;
@@ -23,7 +24,10 @@ pub(crate) struct Places<R, S> {
     folders: On<S>,
 }
 
-impl<R: Files + AllocGlobal + Clone + Drop> Places<R, FolderStore<R>> {
+impl<R: Files + AllocGlobal + Clone + Drop> Places<R, FolderStore<R>>
+where
+    R::File: AsRawFd,
+{
     /// Empty ones. The folders are those below the one where the program runs.
     pub(crate) fn new(rt: &R) -> io::Result<Places<R, FolderStore<R>>> {
         let folders = in_folders(rt)?;
@@ -102,6 +106,7 @@ fn faulty<R: Wait + RandomSource + AllocGlobal>(rt: &R, words: &str) -> Result<S
 fn at_both<R>(places: &mut Places<R, FolderStore<R>>, act: &str) -> Result<String, Flaw>
 where
     R: Wait + RandomSource + Files + AllocGlobal + Clone + Drop,
+    R::File: AsRawFd,
 {
     let in_memory = made(&places.rt, &mut places.memory, act)?;
     let in_folders = made(&places.rt, &mut places.folders, act);
@@ -114,6 +119,7 @@ where
 fn tried<R>(places: &mut Places<R, FolderStore<R>>, act: &str) -> Result<String, Flaw>
 where
     R: Wait + RandomSource + Files + AllocGlobal + Clone + Drop,
+    R::File: AsRawFd,
 {
     let (name, words) = cut(act);
     match name {
@@ -132,6 +138,7 @@ where
 impl<R> Trial for Places<R, FolderStore<R>>
 where
     R: Wait + RandomSource + Files + AllocGlobal + Clone + Drop,
+    R::File: AsRawFd,
 {
     fn outcome(&mut self, row: &str) -> Result<Outcome, Flaw> {
         let (act, wanted) = column(row)?;

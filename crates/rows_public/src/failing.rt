@@ -44,4 +44,8 @@ impl<'a, S: Store> Store for Failing<'a, S> {
             None => Answer::NoMemory(step),
         }
     }
+
+    fn end_walks(&mut self) {
+        self.store.end_walks();
+    }
 }

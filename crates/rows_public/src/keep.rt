@@ -11,12 +11,15 @@
 //! Behind `stuck` and a kind of step (`remove`, `exists`, `size`, `list`, `open`, `append`, `read`, `piece`, `later_piece`, `make`,
 //! `create`, `write`, `persist`, `sync_temp`, `sync_file`, `sync_dir`) an act is made over a store where these steps fail.
 //! `later_piece` is each read of a piece but the first.
+//! `changed` and a time in milliseconds, or `gone`, before an act make it over a store each of whose files changed then.
+//! `collect_with CACHE` takes options: `grace=MILLISECONDS`, `keep=INTEGRITY`, `durable`, `anyway`.
 //! `asked` before an act tells how often the clock was asked, and how many numbers.
 //!
 //! A row holds if the act with this input gives this result at both places. The rows of a group that hold are counted, and
 //! each other row is printed with what was wanted and what came.
 
 mod acts;
+mod dated;
 mod many;
 mod places;
 mod shown;

@@ -48,7 +48,6 @@ pub(crate) fn copied(alloc: Global, answer: Answered<u64>) -> Result<String, All
 /// The line on an export that goes the cheapest way.
 pub(crate) fn sent(alloc: Global, answer: Answered<Exported>) -> Result<String, AllocError> {
     match answer {
-        Ok(Exported::Reflinked) => String::from_str(alloc, "Reflinked"),
         Ok(Exported::HardLinked) => String::from_str(alloc, "Hard-linked"),
         Ok(Exported::Copied(count)) => copied(alloc, Ok(count)),
         Err(error) => refused(alloc, error),

@@ -1,4 +1,5 @@
 //! Calls ask the clock and the numbers before their first step.
+ghost use Rattle.std.specs.Prelude.{◌≡◌};
 ghost use Rattle.cacache.specs.Stores.{Fits, Logs, plain_step, plain_answer};
 
 use cacache::content::write::Writer;
@@ -34,6 +35,12 @@ impl<'a, S: Store> Store for Counting<'a, S> {
     {
         self.steps.set(self.steps.get().saturating_add(1));
         self.store.step(step)
+    }
+
+    fn end_walks(&mut self)
+        ensures logged { S.log self.new.store ≡ S.log self.old.store }
+    {
+        self.store.end_walks();
     }
 }
 

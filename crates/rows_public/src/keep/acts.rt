@@ -1,16 +1,19 @@
 //! What the rows do. Each function knows some of the names and hands on the others.
+use crate::keep::dated::Dated;
 use crate::keep::many::written_each;
 use crate::keep::shown::{done, found, printed, told};
 use crate::keep::stuck::{Kind, Stuck};
 use cacache::env::{Clock, Env, Names, Reasons};
+use cacache::errors::Fault;
 use cacache::store::Store;
 use cacache::{Integrity, Result as Answered, WriteOpts};
 use cacache_keep::{
-    CompactOpts, OddLines, collect, collect_with, compact, plan, repair, repair_with, sweep, touch,
+    CollectOpts, CompactOpts, OddLines, collect, compact, plan, repair, repair_with, sweep, touch,
     verify,
 };
 use cacache_program::keep::{run, said, tell_missing};
 use cacache_program::{Errors, asks_why, tell};
+use cacache_store::store::Stamps;
 use row_places::planting::{held, make_folder, plant, plant_link};
 use row_places::{On, on};
 use rows::Flaw;
@@ -34,7 +37,7 @@ fn words_of(alloc: Global, text: &str) -> Result<Vec<String>, AllocError> {
 }
 
 /// What a run of the program with these words gives.
-fn ran_with<S: Reasons, C: Clock, N: Names>(
+fn ran_with<S: Stamps + Reasons, C: Clock, N: Names>(
     env: &mut Env<S, C, N>,
     words: &[String],
 ) -> Result<String, AllocError> {
@@ -56,7 +59,7 @@ fn ran_with<S: Reasons, C: Clock, N: Names>(
 }
 
 /// What a run of the program gives.
-fn ran<S: Reasons>(env: &mut On<S>, words: &str) -> Result<String, Flaw> {
+fn ran<S: Stamps + Reasons>(env: &mut On<S>, words: &str) -> Result<String, Flaw> {
     let words = words_of(env.alloc, words)?;
     Ok(ran_with(env, &words)?)
 }
@@ -106,8 +109,37 @@ fn removed<S: Store>(env: &mut On<S>, cache: &str, text: &str) -> Result<String,
     }
 }
 
+/// What a collection with these options gives: words as `grace=5`, in milliseconds, `keep=INTEGRITY`, `durable` and `anyway`.
+fn collected<S: Stamps>(env: &mut On<S>, cache: &str, words: &str) -> Result<String, Flaw> {
+    let alloc = env.alloc;
+    let mut roots = Vec::new(alloc);
+    for word in words.split(' ') {
+        if let Some(text) = word.strip_prefix("keep=") {
+            match Integrity::parse(alloc, text) {
+                Ok(root) => match roots.push(root) {
+                    Ok(()) => {}
+                    Err(error) => return Err(AllocError::from(error).into()),
+                },
+                Err(error) => return Ok(refused(alloc, error)?),
+            }
+        }
+    }
+    let mut opts = CollectOpts::new().keep(roots.as_slice());
+    for word in words.split(' ') {
+        opts = match word {
+            "durable" => opts.durable(true),
+            "anyway" => opts.odd(OddLines::Ignore),
+            word => match word.strip_prefix("grace=") {
+                Some(millis) => opts.grace(number_of(millis)? as u64),
+                None => opts,
+            },
+        };
+    }
+    told(alloc, opts.collect(env, cache))
+}
+
 /// What a call that keeps a cache in order gives.
-fn kept<S: Store>(env: &mut On<S>, name: &str, cache: &str) -> Result<String, Flaw> {
+fn kept<S: Stamps>(env: &mut On<S>, name: &str, cache: &str) -> Result<String, Flaw> {
     let alloc = env.alloc;
     let durable = CompactOpts::new().durable(true);
     match name {
@@ -116,7 +148,6 @@ fn kept<S: Store>(env: &mut On<S>, name: &str, cache: &str) -> Result<String, Fl
         "repair" => told(alloc, repair(env, cache)),
         "collect" => told(alloc, collect(env, cache)),
         "repair_anyway" => told(alloc, repair_with(env, cache, OddLines::Ignore)),
-        "collect_anyway" => told(alloc, collect_with(env, cache, OddLines::Ignore)),
         "verify" => told(alloc, verify(env, cache)),
         "compact" => told(alloc, compact(env, cache)),
         "compact_durably" => told(alloc, durable.compact(env, cache)),
@@ -125,7 +156,7 @@ fn kept<S: Store>(env: &mut On<S>, name: &str, cache: &str) -> Result<String, Fl
 }
 
 /// What a call of the cache gives.
-fn called<S: Store>(
+fn called<S: Stamps>(
     env: &mut On<S>,
     name: &str,
     cache: &str,
@@ -140,12 +171,13 @@ fn called<S: Store>(
         "remove_hash_sync" => removed(env, cache, words),
         "touch" => told(alloc, touch(env, cache, words)),
         "write_each" => told(alloc, written_each(env, cache, number_of(words)?)),
+        "collect_with" => collected(env, cache, words),
         _ => kept(env, name, cache),
     }
 }
 
 /// What an act gives.
-fn acted<S: Reasons>(env: &mut On<S>, act: &str, input: &str) -> Result<String, Flaw> {
+fn acted<S: Stamps + Reasons>(env: &mut On<S>, act: &str, input: &str) -> Result<String, Flaw> {
     let alloc = env.alloc;
     let (name, words) = cut(act);
     let (path, rest) = cut(words);
@@ -160,7 +192,7 @@ fn acted<S: Reasons>(env: &mut On<S>, act: &str, input: &str) -> Result<String, 
 }
 
 /// The same, after how often the clock was asked, and how many numbers.
-fn asked<S: Reasons>(env: &mut On<S>, act: &str, input: &str) -> Result<String, Flaw> {
+fn asked<S: Stamps + Reasons>(env: &mut On<S>, act: &str, input: &str) -> Result<String, Flaw> {
     let (clock, numbers) = (env.clock.asked, env.names.next);
     let came = acted(env, act, input)?;
     let clock = env.clock.asked.wrapping_sub(clock);
@@ -170,7 +202,7 @@ fn asked<S: Reasons>(env: &mut On<S>, act: &str, input: &str) -> Result<String, 
 
 /// What an act gives; after `stuck` and a kind of step, over a store on which these fail. After `asked` with how often the
 /// environment was asked.
-pub(crate) fn made<S: Reasons>(env: &mut On<S>, act: &str, input: &str) -> Result<String, Flaw> {
+fn made_now<S: Stamps + Reasons>(env: &mut On<S>, act: &str, input: &str) -> Result<String, Flaw> {
     let (name, words) = cut(act);
     if name == "asked" {
         return asked(env, words, input);
@@ -185,4 +217,30 @@ pub(crate) fn made<S: Reasons>(env: &mut On<S>, act: &str, input: &str) -> Resul
     let stuck = Stuck::new(&mut env.store, kind);
     let mut over = on(env.alloc, stuck, env.base.as_str())?;
     acted(&mut over, act, input)
+}
+
+/// The time that a word gives as that of the last change of each file; `gone` if nothing is there.
+fn change_of(word: &str) -> Result<Result<u64, Fault>, Flaw> {
+    if word == "gone" {
+        return Ok(Err(Fault::NotFound));
+    }
+    Ok(Ok(number_of(word)? as u64))
+}
+
+/// What an act gives; after `changed` and a time, over a store each of whose files changed then. Otherwise the store knows
+/// no times.
+pub(crate) fn made<S: Reasons>(
+    env: &mut On<Dated<S>>,
+    act: &str,
+    input: &str,
+) -> Result<String, Flaw> {
+    let (name, words) = cut(act);
+    if name != "changed" {
+        return made_now(env, act, input);
+    }
+    let (time, act) = cut(words);
+    env.store.changed = change_of(time)?;
+    let came = made_now(env, act, input);
+    env.store.changed = Err(Fault::Unsupported);
+    came
 }

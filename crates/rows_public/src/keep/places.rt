@@ -1,5 +1,7 @@
 //! A disk in memory and real folders, which go through the same rows.
 use crate::keep::acts::made;
+use crate::keep::dated::Dated;
+use cacache::env::Env;
 use cacache::store::{FolderStore, MemStore};
 use row_places::{On, in_both, in_folders, in_memory};
 use rows::words::column;
@@ -11,16 +13,34 @@ use std::io;
 #[derive(Drop)]
 pub(crate) struct Places {
     alloc: Global,
-    memory: On<MemStore>,
-    folders: On<FolderStore<HostRuntime>>,
+    memory: On<Dated<MemStore>>,
+    folders: On<Dated<FolderStore<HostRuntime>>>,
+}
+
+/// The same environment, with a store that says when its files changed.
+fn dated<S>(env: On<S>) -> On<Dated<S>> {
+    let Env {
+        alloc,
+        store,
+        clock,
+        names,
+        base,
+    } = env;
+    Env {
+        alloc,
+        store: Dated::new(store),
+        clock,
+        names,
+        base,
+    }
 }
 
 impl Places {
     /// Empty ones. The folders are those below the one where the program runs.
     pub(crate) fn new(rt: &HostRuntime) -> io::Result<Places> {
         let alloc = rt.alloc();
-        let folders = in_folders(rt)?;
-        let memory = in_memory(alloc)?;
+        let folders = dated(in_folders(rt)?);
+        let memory = dated(in_memory(alloc)?);
         Ok(Places {
             alloc,
             memory,

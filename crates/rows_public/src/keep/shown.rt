@@ -2,7 +2,7 @@
 use cacache::{Integrity, Result as Answered};
 use cacache_core::keeping::{beside, let_go};
 use cacache_core::text::Text;
-use cacache_keep::{Collected, Compacted, Planned, Repaired, Swept, Unused, Verdict};
+use cacache_keep::{Collected, Collection, Compacted, Planned, Repaired, Swept, Unused, Verdict};
 use rows::Flaw;
 use rows::answers::refused;
 use rows::words::{word_of, written_out};
@@ -73,6 +73,18 @@ impl Shown for Collected {
             line.push_str(format!(in alloc; " dropped {address}")?.as_str())?;
         }
         Ok(line)
+    }
+}
+
+impl Shown for Collection {
+    fn shown(&self, alloc: Global) -> Result<String, AllocError> {
+        let Collection {
+            kept,
+            dropped,
+            young,
+            gone,
+        } = *self;
+        format!(in alloc; "kept {kept} dropped {dropped} young {young} gone {gone}")
     }
 }
 

@@ -6,6 +6,7 @@ use cacache::env::Reasons;
 use cacache::errors::Fault;
 use cacache::store::{Answer, Step, Store};
 use cacache_core::keeping::let_go;
+use cacache_store::store::Stamps;
 use std::io::ErrorKind;
 
 /// A kind of step.
@@ -118,6 +119,16 @@ impl<'a, S: Store> Store for Stuck<'a, S> {
         }
         let_go(step);
         Answer::Failed(Fault::Device)
+    }
+
+    fn end_walks(&mut self) {
+        self.store.end_walks();
+    }
+}
+
+impl<'a, S: Stamps> Stamps for Stuck<'a, S> {
+    fn changed(&mut self, path: &str) -> Result<u64, Fault> {
+        self.store.changed(path)
     }
 }
 

@@ -174,4 +174,9 @@ impl Store for Script {
             }
         }
     }
+
+    /// Does nothing: a script holds nothing open.
+    fn end_walks(&mut self)
+        ensures same { self.new ≡ self.old }
+    {}
 }
