@@ -2,7 +2,7 @@
 import os
 import re
 
-from sources import TOP, crates, files, source
+from sources import TOP, crates, files
 
 NUMBERS = dict(zip("one two three four five six seven eight nine ten eleven twelve thirteen fourteen fifteen sixteen seventeen "
                    "eighteen nineteen twenty".split(), range(1, 21)))
@@ -55,28 +55,24 @@ def crate_tables():
             *compared("README.md", "crates of the kit", re.findall(r"`(\w+)`(?! also)", trusted), kit)]
 
 
-def usage(file):
-    """The words of a program, as its usage text has them."""
-    text = told(f"crates/cacache_program/src/{file}", r'USAGE: &str =\s*"usage: [\w-]+ (.*?)\\n"')
-    for part in re.sub(r" \[.*?\]", "", text).split(" | "):
-        names, *arguments = part.split()
-        yield from (" ".join([name, *arguments]) for name in names.split("|"))
+def help_lines(file):
+    """The lines of a program's help, after its usage."""
+    return told(f"crates/cacache_program/src/{file}", r'(?s)HELP: &str =\s*"[^\n]*\n(.*?)";')
 
 
 def helped(file):
-    """The words of a program, as its help has them, but for those that stand before others."""
-    text = told(f"crates/cacache_program/src/{file}", r'(?s)HELP: &str =\s*"[^\n]*\n(.*?)";')
-    for cell in re.findall(r"(?m)^  (\S.*?)  ", text):
+    """The words of a program with their arguments, as its help has them, but for those that stand before others."""
+    for cell in re.findall(r"(?m)^  (\S.*?)  ", help_lines(file)):
         yield from (it for it in cell.split(", ") if it != "--why")
 
 
 def words():
-    """The words of the two programs, against the help of the one and the usage of the other."""
+    """The words of the two programs, against their help."""
     cells = table_below("docs/PROGRAMS.md", "The program `cacache` has these words:")
     stated = [it for cell in cells for it in re.findall("`([^`]+)`", cell)]
     wrong = compared("docs/PROGRAMS.md", "words of cacache", stated, helped("about.rt"))
     shown = told("docs/PROGRAMS.md", r"(?s)In `crates/cacache_keep_cli`.*?\n\n(.*?)\n\n")
-    names = [it.split()[0] for it in usage("keep/about.rt")]
+    names = list(dict.fromkeys(re.findall(r"(?m)^  ([a-z][\w-]*) ", help_lines("keep/about.rt"))))
     return wrong + compared("docs/PROGRAMS.md", "words of cacache-keep", re.findall(r"rt try -- ([\w-]+)", shown), names)
 
 
@@ -94,14 +90,14 @@ def documents():
 
 
 def rows():
-    """The numbers of rows that the page of tests states, those of one file added up, against what `all_rows` prints of it."""
-    text, stated = " ".join(read("docs/tested.md").split()), {}
+    """The numbers of rows that the page of limits states, those of one file added up, against what `all_rows` prints of it."""
+    text, stated = " ".join(read("docs/LIMITS.md").split()), {}
     for count, name in re.findall(r"by ([\d,]+) rows[^(]*\(`(\w+)\.rows`", text):
         stated[name] = stated.get(name, 0) + number(count)
     for name, count in stated.items():
         there = told("crates/all_rows/stdout", rf"(?ms)^== {name}$.*?^all: (\d+) rows hold$")
         if count != int(there):
-            yield f"docs/tested.md: {count} rows of {name}, and there are {there}"
+            yield f"docs/LIMITS.md: {count} rows of {name}, and there are {there}"
 
 
 def lists(name):
@@ -122,15 +118,11 @@ def variants(file, kind, form):
 def stated():
     """Single numbers in a document, each behind its words, with what there is."""
     edits = list(TOP.glob("crates/*/must-fail/*.edit"))
-    play = told("crates/cacache_world/src/playing.rt", r"(?s)pub fn play\((.*?)\n    \{")
-    shown = told("README.md", r"(?s)pub fn play\((.*?)```")
     steps = variants("crates/cacache_store/src/store/step.rt", "enum Step", r"(?m)^    [A-Z]")
     states = variants("crates/cacache_calls/specs/State.antt", "data State", r"(?m)^  \w+ :")
     for name, form, there in [
             ("docs/GATE.md", r"names: (\w+) in \w+ crates", len(edits)),
             ("docs/GATE.md", r"names: \w+ in (\w+) crates", len({it.parent for it in edits})),
-            ("README.md", r"Here are (\w+) of its \w+ clauses:", shown.count("ensures")),
-            ("README.md", r"Here are \w+ of its (\w+) clauses:", play.count("ensures")),
             ("docs/ARCHITECTURE.md", r"`Step` has (\w+) kinds", steps),
             ("docs/ARCHITECTURE.md", r"at once: (\w+) \*\*states\*\*", states),
             ("docs/promises-model.md", r"the table of the (\w+) steps", steps),

@@ -3,15 +3,42 @@ import functools
 import hashlib
 import pathlib
 import re
+import typing
 
 TOP = pathlib.Path(__file__).resolve().parent.parent.parent
 TRIED = TOP / "tools/edits/TRIED"
 
 
+class Edit(typing.NamedTuple):
+    """An edit: its name, the file that has it, and its lines."""
+
+    name: str
+    place: pathlib.Path
+    lines: tuple
+
+    def __str__(self):
+        return f"{self.place.relative_to(TOP)}: {self.name}"
+
+
+def edits_in(place):
+    """The edits of a file: one of the gate is one edit, and one of this folder has those of a crate, each after a line `edit: NAME`. What stands
+    before the first of these lines is an edit without a name, which can't be made."""
+    if place.suffix == ".edit":
+        return [Edit(place.stem, place, tuple(place.read_text().splitlines()))]
+    parts = re.split(r"(?m)^edit: (.*)\n", "edit: \n" + place.read_text())
+    edits = [Edit(name, place, tuple(it for it in text.splitlines() if it.strip())) for name, text in zip(parts[1::2], parts[2::2])]
+    return edits if edits[0].lines else edits[1:]
+
+
+def misplaced(edits):
+    """The edits whose names stand twice in their file, or after a greater one."""
+    return [edit for before, edit in zip(edits, edits[1:]) if before.place == edit.place and before.name >= edit.name]
+
+
 def fields_of(edit):
-    """The file of an edit, its pairs of old and new text, and the lines that are neither."""
+    """The file that an edit changes, its pairs of old and new text, and the lines that are neither."""
     path, pairs, others = "", [], []
-    for line in edit.read_text().splitlines():
+    for line in edit.lines:
         word, _, text = line.partition(":")
         text = text[1:] if text.startswith(" ") else text
         if word == "file":
@@ -45,7 +72,8 @@ def edited(folder, edit):
 
 def all_of(crate):
     """All edits of a crate: those that the gate tries, and those of tools/edits."""
-    return sorted(TOP.glob(f"crates/{crate}/must-fail/*.edit")) + sorted(TOP.glob(f"tools/edits/{crate}/*.edit"))
+    places = sorted(TOP.glob(f"crates/{crate}/must-fail/*.edit")) + sorted(TOP.glob(f"tools/edits/{crate}.edits"))
+    return [edit for place in places for edit in edits_in(place)]
 
 
 @functools.cache
@@ -60,10 +88,10 @@ def crates():
 
 
 def strays():
-    """The edits of crates that crates.txt doesn't list."""
-    places = [*TOP.glob("crates/*/must-fail/*.edit"), *TOP.glob("tools/edits/*/*.edit")]
-    known = {edit for crate in crates() for edit in all_of(crate)}
-    return sorted(set(places) - known)
+    """The edits that are in no file of a crate that crates.txt lists."""
+    places = [*TOP.glob("crates/*/must-fail/*.edit"), *TOP.glob("tools/edits/*.edits"), *TOP.glob("tools/edits/*/*.edit")]
+    known = {edit.place for crate in crates() for edit in all_of(crate)}
+    return [edit for place in sorted(set(places) - known) for edit in edits_in(place)]
 
 
 def sum_of(crate):
@@ -71,7 +99,7 @@ def sum_of(crate):
     folder = TOP / "crates" / crate
     files = [it for part in ("src", "specs", "proofs") for it in (folder / part).rglob("*") if it.is_file()]
     digest = hashlib.sha256()
-    for file in sorted(files) + all_of(crate):
+    for file in sorted(files) + sorted({edit.place for edit in all_of(crate)}):
         digest.update(f"{file.relative_to(TOP)}\0{file.stat().st_size}\0".encode() + file.read_bytes())
     return digest.hexdigest()[:16]
 
@@ -88,22 +116,61 @@ def note(crate, count, commit):
     TRIED.write_text("".join(f"{it} {lines[it]}\n" for it in sorted(lines)))
 
 
-def function_at(folder, edit):
-    """The names by which a check may know the function that an edit changes, the likeliest first; the last is its file's module."""
+class Body(typing.NamedTuple):
+    """What an edit changes: the file below the crate's folder, the lines with its texts, the names by which a check may know the function, the
+    likeliest first, the first and the last line of that function, and the clauses that a written answer shows. The last name is the file's module."""
+
+    path: str
+    lines: frozenset
+    names: tuple
+    span: tuple
+    answered: frozenset
+
+
+HEAD = re.compile(r"(?m)^( *)(?:#\[.*\] *)?(?:pub(?:\([^)]*\))? )?(?:const )?(?:unsafe )?fn (\w+)")
+IMPL = re.compile(r"(?m)^impl(?:<[^{]*?>)? (?:([\w:]+)(?:<([^{]*?)>)? for )?([\w:]+)")
+
+
+def kind_of(impl):
+    """The name of an impl, as a check has it: the type, the trait and the trait's argument, or for `Drop` the type alone."""
+    trait, argument, kind = impl.groups()
+    words = [(it or "").split("::")[-1] for it in (kind, trait)]
+    if trait == "Drop":
+        return words[0]
+    return "".join([*words, re.match(r"\w*", argument)[0] if trait == "From" else ""])
+
+
+def clause_of(goal):
+    """The clause of a goal, as `told` of `returns-in-Write-clause-told`, or nothing where a contract has only one."""
+    return goal.partition("clause-")[2]
+
+
+def function_at(text, place, module):
+    """The names of the function whose head is the last before a place of a file's text, and of its type; and its first and last line."""
+    heads = list(HEAD.finditer(text, 0, place))
+    if not heads:
+        return [], (1, text.count("\n") + 1)
+    indent, name = heads[-1].groups()
+    impls = list(IMPL.finditer(text, 0, place)) if indent else []
+    names = [] if indent else ["::".join([*module, name])]
+    if impls:
+        names = ["::".join([*module, kind_of(impls[-1]), name]), "::".join([*module, impls[-1][3].split("::")[-1]])]
+    end = text.find(f"\n{indent}}}", heads[-1].end())
+    return names, (text.count("\n", 0, heads[-1].start()) + 1, text.count("\n", 0, end if end >= 0 else len(text)) + 2)
+
+
+def body_of(folder, edit):
+    """What an edit changes in the crate's folder, before it is made. Of several functions, the first one that has a line of the edit."""
     path, pairs, _ = fields_of(edit)
-    text = (folder / path).read_text()
+    text, found = (folder / path).read_text(), {}
     words = pathlib.Path(path).with_suffix("").parts[1:]
     module = [] if words in (("lib",), ("main",)) else [it for it in words if it != "mod"]
-    before = text[:text.index(pairs[0][0]) + len(pairs[0][0])]
-    functions = list(re.finditer(r"(?m)^( *)(?:#\[.*\] *)?(?:pub(?:\([^)]*\))? )?(?:const )?(?:unsafe )?fn (\w+)", before))
-    found = []
-    if functions:
-        name, inside = functions[-1][2], len(functions[-1][1]) > 0
-        heads = list(re.finditer(r"(?m)^impl(?:<[^{]*?>)? (?:([\w:]+)(?:<[^{]*?>)? for )?([\w:]+)", before)) if inside else []
-        if heads:
-            trait, kind = ((it or "").split("::")[-1] for it in heads[-1].groups())
-            found.append("::".join([*module, kind + trait, name]))
-            found.append("::".join([*module, kind]))
-        elif not inside:
-            found.append("::".join([*module, name]))
-    return found + ["::".join(module)]
+    for old, new in pairs:
+        place = text.index(old)
+        found[text.count("\n", 0, place) + 1] = function_at(text, place + len(old), module)
+        text = text.replace(old, new)
+    inside = [it for line, it in found.items() if it[1][0] <= line <= it[1][1]]
+    names, span = (inside or list(found.values()))[0]
+    answers = folder / "proofs" / "/".join(names[0].split("::") if names else []) / "Answers.antt"
+    goals = re.findall(r"(?m)^(?:pub )?(\S+) : goal\.", answers.read_text()) if answers.is_file() else []
+    return Body(path, frozenset(found), (*names, "::".join(module)), span, frozenset(map(clause_of, goals)))

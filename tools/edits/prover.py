@@ -6,14 +6,15 @@ import shutil
 import subprocess
 import sys
 
-from edits import crates
+from edits import clause_of, crates
 
-KIT = pathlib.Path(os.environ.get("KIT") or pathlib.Path(shutil.which("rt")).resolve().parent.parent)
+KIT = pathlib.Path(shutil.which("rt")).resolve().parent.parent
 JOBS = os.environ.get("EDITS_JOBS", "2")  # how many functions the prover checks side by side
 LIMIT = 3600  # seconds for one check
 
 # What a proof file says that names what an edit took away: no contract refused the edit then.
 NAMES = re.compile(r"(\./)?proofs/.*(has no field|is not in scope|has no `|was not admitted)")
+FALSE = "allow values at which this goal is false"
 
 
 def root_of(tree, crate):
@@ -85,14 +86,26 @@ def unknown(lines):
     return next((it[1] for it in said if it), None)
 
 
-def unread(lines, path):
-    """The first line that says that a text couldn't be read: then no contract was tried."""
+def unwrapped(lines):
+    """The lines, each with those that go on with it, which two spaces begin."""
+    found = []
     for line in lines:
-        at = re.match(r"(?:\./)?(\S+?):\d+:\d+: error(?:\[[\w-]+\])?: (?:(`[^`]*`): )?(.*)", line)
-        if at and (at[1] == path or at[1].startswith(("src/", "specs/"))):
-            said = re.sub(r"`[^`]*`", "", at[3])
-            if not at[2] or re.search(r"is not in scope|has no field|is no name|operand is missing|expected the end|cannot continue", said):
-                return line
+        if line.startswith("  ") and found:
+            found[-1] += line[1:]
+        else:
+            found.append(line)
+    return found
+
+
+def unread(lines, path, only=None):
+    """The first line that says that a text couldn't be read: then no contract was tried. With `only`, of an error in these lines of the file."""
+    for line in lines:
+        at = re.match(r"(?:\./)?(\S+?):(\d+):\d+: error(?:\[[\w-]+\])?: (?:(`[^`]*`): )?(.*)", line)
+        if not at or not (at[1] == path and int(at[2]) in only if only else at[1].startswith((path, "src/", "specs/"))):
+            continue
+        said = re.sub(r"`[^`]*`", "", at[4])
+        if not at[3] or re.search(r"is not in scope|has no field|is no name|operand is missing|expected the end|cannot continue", said):
+            return line
     return None
 
 
@@ -116,33 +129,48 @@ def leans(lines, function):
     return any(re.match(rf"fn \w+::{re.escape(function)}: .*it calls", it) for it in lines)
 
 
-def told_of(lines, function):
-    """The errors and notes on a function: those of its own proof files, or on all functions where there is none."""
-    told = [it for it in lines if re.match(r"(note: )?\S+:\d+:\d+:", it)]
-    told = [it for it in told if ": error" in it or it.startswith("note: ")] or told
-    if function is not None:
-        own = "proofs/" + function.replace("::", "/") + "/"
-        told = [it for it in told if own in it or not re.match(r"(\./)?proofs/", it)]
+def told_of(lines, body, is_alone):
+    """The errors and notes on an edit: all if it was made alone, and else those on its function and of that function's proof files."""
+    own, told = f"proofs/{body.names[0].replace('::', '/')}/", []
+    for line in lines:
+        at = re.match(r"(?:note: )?(?:\./)?(\S+?):(\d+):\d+:", line)
+        if at and (": error" in line or line.startswith("note: ") and "not proved" in line):
+            if is_alone or at[1].startswith(own) or at[1] == body.path and body.span[0] <= int(at[2]) <= body.span[1]:
+                told.append(line)
     return told
 
 
-def judged(status, lines, path, function=None):
-    """Whether the answer on an edit is a refusal by the prover, and what to say of it. With a function, it is about that one alone."""
+def says_little(told, body):
+    """The line by which a proof file names what an edit took away, if nothing that was told speaks against the edit beside it. A goal of a clause that
+    the written answers show is open without them, so it speaks against the edit only if the prover found values at which it is false."""
+    missed = [it for it in told if NAMES.match(it)]
+    for line in told:
+        goal = re.search(r"it is not proved .*\(`([^`]*)`\)", line)
+        if line not in missed and not (goal and FALSE not in line and clause_of(goal[1]) in body.answered):
+            return None
+    return missed[0] if missed else None
+
+
+def judged(status, lines, body, is_alone=True):
+    """Whether the answer on an edit is a refusal by the prover, and what to say of it. If it wasn't made alone, the answer is about its function."""
+    lines, function = unwrapped(lines), None if is_alone else body.names[0]
     if status == 0:
         return False, "NOT REFUSED"
     ring = next((it for it in lines if "is in a cycle of calls" in it), None)
-    if ring and function is None:
+    if ring and is_alone:
         return True, f"refused: the function isn't proved to return: {ring[:120]}"
-    if unread(lines, path):
-        return False, f"NOT READ: {unread(lines, path)[:160]}"
+    if unread(lines, body.path):
+        return False, f"NOT READ: {unread(lines, body.path)[:160]}"
     if status != 1 or not has_verdict(lines):
         return False, f"NOT TRIED: {next((it for it in lines if 'error' in it), lines[-1])[:160]}"
-    if any(re.match(r"fn \S+: could not tell", it) for it in lines):
+    about = r"\S+" if is_alone else rf"\w+::{re.escape(function)}"
+    if any(re.match(f"fn {about}: could not tell", it) for it in lines):
         return False, "NO VERDICT: the prover could not tell"
     fell = fallen(lines, function)
     if not fell:
         return False, f"NOT TRIED: no goal was refused: {next((it for it in lines if it.startswith('fn ') and ': proved' not in it), '')[:160]}"
-    told = told_of(lines, function)
-    if ": not proved" in fell and told and all(NAMES.match(it) for it in told):
-        return False, f"SAYS LITTLE: only a proof file names what the edit took away: {told[0][:120]}"
-    return True, f"refused: {next((it for it in told if not NAMES.match(it)), fell)[:140] if function is None else fell[:140]}"
+    told = told_of(lines, body, is_alone)
+    little = says_little(told, body)
+    if ": not proved" in fell and little:
+        return False, f"SAYS LITTLE: only a proof file names what the edit took away: {little[:160]}"
+    return True, f"refused: {next((it for it in told if not NAMES.match(it)), fell)[:140] if is_alone else fell[:140]}"
