@@ -1,7 +1,7 @@
 -- What a poll, a taking and an ending do to what lies under the lock.
-use Rattle.std.specs.Prelude.{◌≡◌, ◌⊎◌, ℕ, List, Option, Some, None, Result, Ok, Err, ◌++◌, [], ◌∷◌}
+use Rattle.std.specs.Prelude.{◌≡◌, ◌⊎◌, ℕ, false, List, Option, Some, None, Result, Ok, Err, ◌++◌, [], ◌∷◌}
 use Rattle.cacache_core.specs.{declared.{errors.Error.{Error, TheVariants.{OutOfMemory}}, integrity.algorithm.Algorithm.{Algorithm}}, Hashers.{algorithm_of}}
-use Rattle.cacache_polled.specs.{declared.kinds.{Work.{Work}, Polled.{Polled}, Completion.{Completion}}, Table.{Ask, polled}, Events.{Event, asks, ends, HasSeen}}
+use Rattle.cacache_polled.specs.{declared.kinds.{Work.{Work}, Polled.{Polled}, Completion.{Completion, TheVariants.{Gone}}}, Table.{Ask, polled}, Events.{Event, asks, ends, HasSeen}}
 use Rattle.cacache_polled.specs.declared.kinds.Polled.TheVariants as polls
 use Rattle.cacache_async.specs.Waiting.{TellsFault}
 use Rattle.cacache_writers.specs.declared.kept.Kept.{Kept}
@@ -35,13 +35,19 @@ module _ {T : Type 0} where
     pub fresh : HasSeen k.core []
     pub algorithm_is : algorithm_of k.core.hasher ≡ algorithm
     pub temp_is : k.temp ≡ Some file
-    pub idle : (k.work ≡ None) × (k.waker ≡ None)
+    pub idle : (k.work ≡ None) × (k.waker ≡ None) × (k.is_gone ≡ false)
 
   -- the core has this ending, and nothing waits for a worker
   abbrev pub IsEnded : Kept T → Kept T → Completion → Type 0
   IsEnded old new c =
       (new.work ≡ None) × (new.waker ≡ None)
       × ((es : List Event) → HasSeen old.core es → HasSeen new.core (es ++ ends c ∷ []))
+
+  -- this work, if any, ended undone, and its file lies there as before; without work nothing changed
+  abbrev pub GivesUp : Kept T → Kept T → Option Work → Type 0
+  GivesUp old new None = new ≡ old
+  GivesUp old new (Some w) =
+      IsEnded old new Gone × (new.temp ≡ old.temp) × (new.is_gone ≡ old.is_gone)
 
   -- the file that goes out with the work
   abbrev pub taken_out : Option Work → Option T → Option T

@@ -63,7 +63,7 @@ impl<T: Drop> PolledFile<T> {
         let kept = &mut *guard;
         match kept.poll(self.alloc, asked) {
             Ok(Some(count)) => Poll::Ready(Ok(count)),
-            Ok(None) => cx.register(&shared.source, &mut kept.waker),
+            Ok(None) => kept.wait(cx, &shared.source),
             Err(error) => Poll::Ready(Err(error)),
         }
     }

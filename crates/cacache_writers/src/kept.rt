@@ -1,14 +1,15 @@
 //! What lies under the lock of a polled file.
-ghost use Rattle.std.specs.Prelude.{◌≡◌, None};
+ghost use Rattle.std.specs.Prelude.{◌≡◌, IfSome, IsTrue, None, true};
+ghost use Rattle.futures.specs.{Poll.{OnPending}, Task.{IsArmed, Keeps}};
 ghost use Rattle.cacache_core.specs.Hashers.{algorithm_of};
-ghost use Rattle.cacache_polled.specs.Table.{ask_of};
-ghost use Rattle.cacache_writers.specs.Sharing.{IsPolled, IsEnded, IsNew, taken_out, left_after};
+ghost use Rattle.cacache_polled.specs.{declared.kinds.Completion.TheVariants.{Gone}, Table.{ask_of}};
+ghost use Rattle.cacache_writers.specs.Sharing.{GivesUp, IsPolled, IsEnded, IsNew, taken_out, left_after};
 
 use cacache_async::polling;
 use cacache_core::errors::Result;
 use cacache_core::integrity::Algorithm;
 use cacache_polled::{Completion, Polled, Request, Work, WriterCore};
-use futures::task::Waker;
+use futures::task::{Context, Poll, Source, Waker};
 use std::alloc::Global;
 use std::snapshot::Snapshot;
 
@@ -22,6 +23,8 @@ pub struct Kept<T> {
     pub work: Option<Work>,
     /// Dropping it wakes the task that waits.
     pub waker: Option<Waker>,
+    /// No worker comes any more.
+    pub is_gone: bool,
 }
 
 /// Shows that a core got the ending of its work, and with which file: only `Kept::end` makes one.
@@ -50,6 +53,7 @@ impl<T: Drop> Kept<T> {
             temp: Some(temp),
             work: None,
             waker: None,
+            is_gone: false,
         }
     }
 
@@ -91,6 +95,7 @@ impl<T: Drop> Kept<T> {
         ensures ended { IsEnded self.old self.new completion }
         ensures temp { self.new.temp ≡ temp }
         ensures told { (result.ending ≡ completion) × (result.temp.value ≡ temp) }
+        ensures gone { self.new.is_gone ≡ self.old.is_gone }
         ensures algorithm { algorithm_of self.new.core.hasher ≡ algorithm_of self.old.core.hasher }
     {
         let seen = Snapshot::of(&temp);
@@ -102,5 +107,39 @@ impl<T: Drop> Kept<T> {
             ending: completion,
             temp: seen,
         }
+    }
+
+    /// Ends the work that no worker has taken as `Gone`.
+    pub(crate) fn give_up(&mut self) -> Option<Told<T>>
+        ensures ends { GivesUp self.old self.new self.old.work }
+        ensures told { IfSome result (λ told. told.ending ≡ Gone) }
+    {
+        if self.work.is_none() {
+            return None;
+        }
+        let temp = self.temp.take();
+        Some(self.end(temp, Completion::Gone))
+    }
+
+    /// No worker comes any more: ends the work that none has taken, and from then on all that begins.
+    pub(crate) fn quit(&mut self)
+        ensures ends { GivesUp (record self.old { is_gone = true }) self.new self.old.work }
+    {
+        self.is_gone = true;
+        let _told = self.give_up();
+    }
+
+    /// Waits for the end of the work. If no worker comes for it, it ends here, and the task is woken.
+    pub(crate) fn wait<A>(&mut self, cx: &mut Context<'_>, source: &Source) -> Poll<A>
+        ensures gone { IsTrue self.old.is_gone
+            → IfSome self.old.work (λ _. IsEnded self.old self.new Gone) }
+        ensures armed { OnPending result (IsArmed cx.new) }
+        ensures kept { Keeps cx.old cx.new }
+    {
+        let polled = cx.register(source, &mut self.waker);
+        if self.is_gone {
+            let _told = self.give_up();
+        }
+        polled
     }
 }

@@ -1,11 +1,12 @@
 //! What a polled file and its workers share: the core, the temporary file and the work that is out.
-ghost use Rattle.std.specs.Prelude.{◌≡◌, IfSome};
+ghost use Rattle.std.specs.Prelude.{◌≡◌, IfSome, IsTrue, None};
 ghost use Rattle.cacache_polled.specs.declared.kinds.Completion.TheVariants.{Gone};
 
 use crate::kept::{Kept, Told};
 use cacache_core::keeping::let_go;
 use cacache_polled::{Completion, Work};
 use futures::task::Source;
+use std::snapshot::Snapshot;
 use std::sync::atomic::{AtomicBool, Ordering};
 use std::sync::{Mutex, Wait};
 
@@ -72,17 +73,20 @@ impl<T: Drop> Shared<T> {
         }
     }
 
-    /// Ends the work that no worker has taken: none comes any more.
+    /// Ends the work that no worker has taken.
     pub(crate) fn give_up<R: Wait>(&self, rt: &R) -> Option<Told<T>>
         ensures gone { IfSome result (λ told. told.ending ≡ Gone) }
     {
+        self.kept.lock(rt).give_up()
+    }
+
+    /// No worker comes any more. It answers what lies under the lock then.
+    pub(crate) fn quit<R: Wait>(&self, rt: &R) -> Snapshot<Kept<T>>
+        ensures gone { IsTrue result.value.is_gone × (result.value.work ≡ None) }
+    {
         let mut guard = self.kept.lock(rt);
         let kept = &mut *guard;
-        let (work, temp) = kept.take();
-        if work.is_some() {
-            Some(kept.end(temp, Completion::Gone))
-        } else {
-            None
-        }
+        kept.quit();
+        Snapshot::of(kept)
     }
 }

@@ -28,7 +28,7 @@ pub enum Turned {
 /// Does a polled file's work, in a thread of its own or of the caller's.
 #[derive(Drop)]
 pub struct Worker<T> {
-    shared: Arc<Shared<T>, Global>,
+    pub(crate) shared: Arc<Shared<T>, Global>,
     /// How often the gate was asked; 2^64 - 1 stays as it is.
     asked: u64,
 }
@@ -66,14 +66,14 @@ impl<T: RemovableTemp> Worker<T> {
         )
     }
 
-    /// Takes turns until one is over, and sleeps after each that had nothing to do: 20 microseconds, and a millisecond
-    /// after 64 such turns in a row. The example of `Writer::create` runs one in a thread of its own, and joins it:
-    /// until it returns it may have the temporary file of a writer that was dropped.
+    /// Takes turns until one is over, and sleeps a millisecond after each that had nothing to do. The example of
+    /// `Writer::create` runs one in a thread of its own, and joins it: until it returns it may have the temporary file
+    /// of a writer that was dropped.
     ///
     /// `Wait` is for the lock and for sleeping, `Clock` for how long. Unless its gate says `Quit`, it doesn't
     /// return before the polled file is dropped, committed or closed.
     pub fn run<R: Wait + Clock, G: Gate>(mut self, rt: &R, gate: &G) {
-        run_by(rt, || self.turn(rt, gate))
+        run_by(rt, |_idle| Duration::from_millis(1), || self.turn(rt, gate))
     }
 }
 
@@ -122,14 +122,14 @@ fn turn_by<
     }
 }
 
-/// How long a worker sleeps after so many turns in a row that had nothing to do. A writer's next piece often follows at
-/// once, so that a worker looks often at first.
-fn pause(idle: u32) -> Duration {
-    Duration::from_micros(if idle < 64 { 20 } else { 1000 })
-}
-
-/// Takes turns until one is over, and sleeps after each that had nothing to do.
-pub(crate) fn run_by<R: Wait + Clock, Turn: FnMut() -> Turned>(rt: &R, mut turn: Turn)
+/// Takes turns until one is over. After each that had nothing to do it sleeps, for as long as the pause says by the
+/// number of those in a row.
+pub(crate) fn run_by<R: Wait + Clock, Pause: Fn(u32) -> Duration, Turn: FnMut() -> Turned>(
+    rt: &R,
+    pause: Pause,
+    mut turn: Turn,
+)
+    requires pause { Pause.IsAlwaysCallable pause }
     requires turn { Turn.IsAlwaysCallable turn }
     ensures over { (before after : Turn) × Turn.step before Over after }
 {

@@ -7,36 +7,16 @@ use crate::removal::RemovableTemp;
 use crate::worker::{Turned, Worker, run_by};
 use crate::writer::Writer;
 use cacache_core::errors::{Error, Result};
-use cacache_jobs::{Gate, Pass};
+use cacache_jobs::Open;
 use std::alloc::{AllocGlobal, Global};
 use std::sync::atomic::{AtomicBool, Ordering};
 use std::sync::{Arc, Wait};
 use std::thread;
 use std::thread::{JoinHandle, Threads};
-use std::time::Clock;
-
-/// Lets turns through until the threads are to end.
-#[derive(Drop)]
-struct UntilEnd(Arc<AtomicBool, Global>);
-
-impl UntilEnd {
-    fn is_ended(&self) -> bool {
-        self.0.load(Ordering::SeqCst)
-    }
-}
-
-impl Gate for UntilEnd {
-    fn pass(&self, _turn: u64) -> Pass {
-        if self.is_ended() {
-            Pass::Quit
-        } else {
-            Pass::Go
-        }
-    }
-}
+use std::time::{Clock, Duration};
 
 /// Threads that do the work of polled writers. Each ends once its writers were committed, closed or dropped. Dropping
-/// this ends those that are left, and waits for them: work that is out then ends undone, and no later work is done.
+/// this ends those that are left, and waits for them: their work that is out then ends undone, and so does later work.
 pub struct Workers<R: Threads> {
     rt: R,
     is_ended: Arc<AtomicBool, Global>,
@@ -82,36 +62,43 @@ fn both(one: Turned, other: Turned) -> Turned
 }
 
 /// Each worker takes a turn.
-fn turn_all<R: Wait, G: Gate, T: RemovableTemp>(
-    rt: &R,
-    gate: &G,
-    workers: &mut [Worker<T>],
-) -> Turned {
+fn turn_all<R: Wait, T: RemovableTemp>(rt: &R, workers: &mut [Worker<T>]) -> Turned {
     let mut all = Turned::Over;
     for worker in workers.iter_mut() {
-        all = both(all, worker.turn(rt, gate));
+        all = both(all, worker.turn(rt, &Open));
     }
     all
 }
 
-/// The workers take turns until all are over, or once more after the end.
+/// How long a thread sleeps after so many rounds of turns in a row that had nothing to do: 20 microseconds at first, since
+/// a writer's next piece often follows at once, and then a millisecond longer after each 64 rounds, up to ten.
+fn pause(idle: u32) -> Duration {
+    Duration::from_micros((u64::from(idle) / 64 * 1000).clamp(20, 10_000))
+}
+
+/// The workers take turns until the end, or until all are over. No worker comes after that.
 fn work_all<R: Wait + Clock + Drop, T: RemovableTemp>(
     rt: R,
-    gate: UntilEnd,
+    is_ended: Arc<AtomicBool, Global>,
     mut workers: Vec<Worker<T>>,
 ) {
-    run_by(&rt, || {
-        let is_ended = gate.is_ended();
-        let turned = turn_all(&rt, &gate, &mut workers);
-        if is_ended { Turned::Over } else { turned }
-    })
+    run_by(&rt, pause, || {
+        if is_ended.load(Ordering::SeqCst) {
+            Turned::Over
+        } else {
+            turn_all(&rt, &mut workers)
+        }
+    });
+    for worker in workers.iter() {
+        worker.shared.quit(&rt);
+    }
 }
 
 impl<R: Threads + Wait + Clock + AllocGlobal + Copy + Send + Sync + Drop + 'static> Workers<R> {
     /// Starts threads that do the work of these writers: at most so many, and at least one if there is a writer. Each
     /// has some of the writers. Declare it after them, so that it is dropped before them.
     ///
-    /// `OutOfMemory` if there is no memory or no thread; then those that were started have ended.
+    /// `OutOfMemory` if there is no memory or no thread; then those that were started have ended, as by a drop.
     pub fn start<T: RemovableTemp + Send + 'static>(
         rt: R,
         threads: usize,
@@ -143,9 +130,9 @@ impl<R: Threads + Wait + Clock + AllocGlobal + Copy + Send + Sync + Drop + 'stat
     {
         let rt = self.rt;
         let workers = workers_of(alloc, writers)?;
-        let gate = UntilEnd(Arc::try_clone(&self.is_ended)?);
+        let is_ended = Arc::try_clone(&self.is_ended)?;
         self.threads.reserve(1)?;
-        match thread::spawn(&rt, move || work_all(rt, gate, workers)) {
+        match thread::spawn(&rt, move || work_all(rt, is_ended, workers)) {
             Ok(thread) => {
                 self.threads.push(thread)?;
                 Ok(())
