@@ -7,7 +7,8 @@ It starts too on what would have been left at a few earlier moments: a beginning
 What may be there: of each content and each key the state of its last durable call that had answered by then, or any that it had or could
 come to have since. A durable put fixes its content and its key's entry, a durable put by hash its content, and a durable compaction the entry
 that each key has, or its lack. What a plain put, a removal, a damage, a collection or a repair did since may be lost or not; a compaction
-that isn't durable may take a key's lines. So a durable content that was removed and put again plainly may be absent.
+that isn't durable may take a key's lines, unless the last of them is durable. So a durable content that was removed and put again plainly may be
+absent.
 """
 import random
 import re
@@ -35,6 +36,7 @@ class State:
     def __init__(self, contents, keys):
         self.contents, self.keys = ({at: {it} for at, it in found.items()} for found in (contents, keys))
         self.content, self.key, self.answered = dict(contents), dict(keys), dict(contents)
+        self.closed = set()  # the keys of which the last line is surely durable
 
     def put(self, number, states, key, fixed, sure):
         """A content comes to have these states, the last one in the end, and a key this number, if it is put."""
@@ -47,6 +49,7 @@ class State:
             may = self.keys.setdefault(number // VERSIONS, {None})
             self.keys[number // VERSIONS] = {number} if fixed and sure else may | {number}
             self.key[number // VERSIONS] = number
+            (self.closed.add if fixed and sure else self.closed.discard)(number // VERSIONS)
 
     def mix(self, number, sure):
         """A number is put in its way; sure: it has answered."""
@@ -54,6 +57,7 @@ class State:
         if way == "removed":
             self.keys.setdefault(number // VERSIONS, {None}).add(None)
             self.key[number // VERSIONS] = None
+            self.closed.discard(number // VERSIONS)
         elif way == "plain after durable":
             self.put(number, ["is"], True, True, sure)
             self.put(number, ["gone", "other", "is"], True, False, sure)
@@ -74,12 +78,14 @@ class State:
                 self.contents[number].add("gone")
                 self.content[number] = self.answered[number] = "gone"
         for key, number in self.key.items():
-            if kind == "compact" or kind == "repair" and number is not None and self.content.get(number) != "is":
+            if kind == "compact" and key not in self.closed or kind == "repair" and number is not None and self.content.get(number) != "is":
                 self.keys[key].add(None)
             if kind == "repair" and self.content.get(number) != "is":
                 self.key[key] = None
+                self.closed.discard(key)
             if kind == "compact durably" and sure:
                 self.keys[key] = {number}
+                self.closed.add(key)
 
 
 def events(lines, noted):

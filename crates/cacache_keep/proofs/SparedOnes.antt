@@ -12,7 +12,7 @@ use Rattle.cacache_laws.specs.{Caches.{Called, HasKey}, Keeping.{found_under}, R
 use Rattle.cacache_laws.proofs.{Calls.{InParts.{logs_lead}, CallErrors.{plain_error}}, Readings.OpenReaders.{log_front}, trees.{HiddenKeys.{tombstones_hide}, Keeping.{tombstones_keep_contents}, Led.{finds_led}, Logged.{answered_split, gains_join, log_rooted}, Members.{Member, member_contains}, Spared.SparedKeys.{tombstones_fit}}}
 use Rattle.cacache_sync.specs.Lookups.{delete_of}
 use Rattle.cacache_keep.specs.{declared.{checking.OddLines.TheVariants.{Refuse}, limits.Limits.{Limits}}, Calls.{MadeCalls, removal}, Confirming.{Leads, Lookup, finding}, Keeping.{CollectsFrom, CollectsWith, StopsCollecting}, Pruning.{Entombs, IsTomb, PlansPrune, Tomb, entombing, StopsEntombing}, Sparing.{HasKeyAmong, PrunePlansLeave, PrunesDropKeys, PrunesDropLed, PrunesSpareKeys, StaysLed, StoppedPrunesSpareKeys}, Repairing.{tombstone}}
-use Rattle.cacache_keep.proofs.{Collections.{Behind.{collections_keep_led}, Leaving.{call_led, keeps_led, same_led, then_led}, StoppedKeys.{listing_keeps, stop_gains, stopped_led}}, Confirmed.{astray_keeps, confirms_keep, confirms_made}, Stopped.{EachOn, Keeps, calls_gain, ends_look, gained, then_keeps}, Indexes.StandingIndexes.{index_looked}, Repairs.Buried.{none_behind}, Asked.{mapped_on}}
+use Rattle.cacache_keep.proofs.{Collections.{Behind.{collections_keep_led}, Leaving.{call_led, keeps_led, same_led, then_led}, StoppedKeys.{listing_keeps, stop_gains, stopped_led}}, Confirmed.{astray_keeps, confirms_keep, confirms_made}, Stopped.{EachOn, Keeps, calls_gain, index_keeps, then_keeps}, Repairs.{Buried.{none_behind}, Judged.{index_looked}}, Asked.{mapped_on}}
 use Rattle.cacache_calls.specs.declared.command.Command.TheVariants as commands
 use Rattle.cacache_calls.specs.declared.reply.Reply.TheVariants as replies
 
@@ -32,9 +32,8 @@ front_logged log new moves gains logged = log_front log new (map (λ m. Made m.0
 pub prune_plans_leave : PrunePlansLeave
 prune_plans_leave limits site home entries dropped kept odd old new is logged p =
     let l = p.listing.0 in
-    let moves : Moves = l.2.0 in
-    let lead = logs_lead old new moves l.2.2 logged in
-    lead.1 ∙ (index_looked site home (tree_of old) l.0 l.1 entries moves is (log_rooted old) l.2.1 lead.0).1
+    let lead = logs_lead old new l.2.0 l.2.2 logged in
+    lead.1 ∙ (index_looked site (tree_of old) entries (Some old) (Some new) l lead.0).1
 
 -- ---- tombstones
 
@@ -236,8 +235,8 @@ prunes_drop_led limits site home entries dropped kept left gone entry old new is
 -- ---- one that an error ended
 
 pub stopped_prunes_spare_keys : StoppedPrunesSpareKeys
-stopped_prunes_spare_keys limits site home e key bytes i old new is logged standing (inl (inl (moves, ends, gains))) other has =
-    keeps_led site.cache key bytes i old new (gained (Some old) (Some new) moves gains (ends_look site e moves ends)) logged standing has
+stopped_prunes_spare_keys limits site home e key bytes i old new is logged standing (inl (inl stop)) other has =
+    keeps_led site.cache key bytes i old new (index_keeps site stop.0 (Some old) (Some new) stop.1) logged standing has
 stopped_prunes_spare_keys limits site home e key bytes i old new is logged standing (inl (inr (entries, odd, reads, memory))) other has =
     keeps_led site.cache key bytes i old new (listing_keeps site entries (Some old) (Some new) reads.0) logged standing has
 stopped_prunes_spare_keys limits site home e key bytes i old new is logged standing (inr (entries, dropped, kept, odd, listed, plan, inl (refuses, same))) other has =

@@ -5,14 +5,15 @@ use Rattle.std.specs.{Prelude.{All, IsErrAnd}, List.{AllByRecursion}}
 use Rattle.cacache_core.specs.declared.{errors.{Error.{Error, TheVariants.{IoError, OutOfMemory}}, Fault.{Fault, TheVariants.{NotFound}}}, integrity.digest.Hash.{Hash}}
 use Rattle.cacache_store.specs.declared.store.log.LogItem.{LogItem}
 use Rattle.cacache_entry.specs.Latest.{Found}
-use Rattle.cacache_calls.specs.{declared.{command.Command.{Command}, reply.Reply.{Reply}}, State.{Site, Item}, Table.{opening}, Runs.{Ran, plain_item, without_message, Moves, Gains}, Licence.{AllMay, looking_on}, Walking.{walk}}
-use Rattle.cacache_calls.proofs.{Going.{no_gain}, Within.{calls_keep_to, run_allowed}}
+use Rattle.cacache_calls.specs.{declared.{command.Command.{Command}, reply.Reply.{Reply}}, State.{Site, Item}, Table.{opening}, Runs.{Ran, plain_item, without_message, Moves, Gains}, Licence.{AllMay, looking_on}}
+use Rattle.cacache_calls.proofs.Within.{calls_keep_to}
 use Rattle.cacache_jobs.specs.Sites.{site_of}
 use Rattle.cacache_walks.specs.{Listing.{ListsContents}, Reading.{Folder, ReadsFolders, StopsWalk, folders_in}}
-use Rattle.cacache_keep.specs.{Calls.{Asks, AsksEach, HasNoIndex, IsFirstError, IsOwnError, ListsEntries, MadeCalls, SaysWhy, StopsIndex, StopsQuestions, StopsReading, index_of, question_of, removal, EndsFirst, EndsIndex, ListsIndex}, Reading.{ReadsEach}, Repairing.{DropsDamaged}, Walking.{LosesIndex, MeetsIndex}, Linked.{ListsBelow, ListsEach, Part, as_walked, linked_in, moves_in}}
+use Rattle.cacache_keep.specs.{Calls.{Asks, AsksEach, HasNoIndex, IsFirstError, IsIndexError, ListsEntries, MadeCalls, SaysWhy, StopsIndex, StopsQuestions, StopsReading, question_of, removal}, Reading.{ReadsEach}, Repairing.{DropsDamaged}, Walking.{MeetsIndex}}
 use Rattle.cacache_disk.specs.Tree.{Tree}
 use Rattle.cacache_laws.specs.{Looks.{OnlyLooks}, Sequence.{tree_on, AreAnswered}, trees.Answers.{AnswersOn}}
 use Rattle.cacache_laws.proofs.{trees.Logged.{gains_join, tree_rest, answered_split, answered_rest, looked}, Readings.Looks.{moves_keep}}
+use Rattle.cacache_calls.specs.declared.command.Command.TheVariants as commands
 use Rattle.cacache_calls.specs.declared.reply.Reply.TheVariants as replies
 
 -- ---- calls after calls
@@ -58,7 +59,7 @@ entries_plain [] more = refl
 entries_plain (f ∷ fs) more = ap (λ (l : List Item). Ok f ∷ l) (entries_plain fs more)
 
 -- the first error, without messages
-pub first_plain : (items : List Item) (e : Error) → IsFirstError items e → IsFirstError (map plain_item items) (without_message e)
+first_plain : (items : List Item) (e : Error) → IsFirstError items e → IsFirstError (map plain_item items) (without_message e)
 first_plain items e (entries, rest, is) = (entries, map plain_item rest, ap (map plain_item) is ∙ entries_plain entries (Err e ∷ rest))
 
 only_missing : (item : Item) (message : List ℕ) → plain_item item ≡ Err (IoError NotFound message) → (m : List ℕ) × (item ≡ Err (IoError NotFound m))
@@ -70,13 +71,10 @@ missing_too (item ∷ []) (message, is) =
     let it = only_missing item message (cc) in (it.0, ap (λ (i : Item). i ∷ []) it.1)
 missing_too items (message, is) = absurd (cc)
 
-own_plain : (items : List Item) (e : Error) → IsOwnError items e → IsOwnError (map plain_item items) (without_message e)
-own_plain items e own = (first_plain items e own.0, λ missing. own.1 (missing_too items missing))
-
 -- the error ended the listing of the index, or memory ran out
-pub own_stops : (site : Site) (items : List Item) (e : Error) (odd linked : List (List ℕ)) (old new : Option (List LogItem)) → MeetsIndex (index_of site) (map plain_item items) odd linked old new → (e ≡ OutOfMemory) ⊎ IsOwnError items e → StopsIndex site e old new
-own_stops site items e odd linked old new met (inl memory) = (met.moves, inl (replies.Listed (map plain_item items), met.lists, inl memory), met.gains)
-own_stops site items e odd linked old new met (inr own) = (met.moves, inl (replies.Listed (map plain_item items), met.lists, inr (own_plain items e own)), met.gains)
+pub items_stop : (cache base : List ℕ) (items : List Item) (e : Error) (odd : List (List ℕ)) (old new : Option (List LogItem)) → MeetsIndex cache (map plain_item items) odd old new → (e ≡ OutOfMemory) ⊎ IsIndexError items e → StopsIndex (site_of cache base 0) e old new
+items_stop cache base items e odd old new met (inl memory) = (replies.Listed (map plain_item items), met.0, inl memory)
+items_stop cache base items e odd old new met (inr (first, apart)) = (replies.Listed (map plain_item items), met.0, inr (first_plain items e first, λ missing. apart (missing_too items missing)))
 
 -- entries, and then an error
 pub first_error : (items : List Item) (entries : List Found) (e : Error) (k : ℕ) → k < length items → map Ok entries ≡ take k items → Err e ≡ get_or items k (Err e) → IsFirstError items e
@@ -89,14 +87,6 @@ asks_stop site entries dangling e old mid new r s = stops_on site (map question_
 -- the error ended the questions after a listing of the index
 pub entries_stop : (site : Site) (entries : List Found) (e : Error) (old mid new : Option (List LogItem)) → ListsEntries site entries old mid → StopsQuestions site e mid new → StopsReading site e old new
 entries_stop site entries e old mid new l s = inr (entries, mid, l, s)
-
--- memory ran out in a listing
-pub index_lost : (site : Site) (e : Error) (old new : Option (List LogItem)) → LosesIndex (index_of site) e old new → StopsIndex site e old new
-index_lost site e old new (memory, moves) = (moves.0, inl (replies.Refused OutOfMemory, moves.1, inl memory), moves.2)
-
--- memory ran out before it
-pub index_lost_here : (site : Site) (log : Option (List LogItem)) → StopsIndex site OutOfMemory log log
-index_lost_here site log = ([], inl (replies.Refused OutOfMemory, inr refl, inl refl), no_gain log)
 
 -- memory ran out right there
 pub lost_here : (site : Site) (log : Option (List LogItem)) → StopsQuestions site OutOfMemory log log
@@ -157,37 +147,6 @@ calls_gain site (c ∷ calls) old new made =
 abbrev pub Look : Moves → Type 0
 Look moves = AllMay looking_on moves
 
-both_look : (xs ys : Moves) → Look xs → Look ys → Look (xs ++ ys)
-both_look [] ys a b = b
-both_look (m ∷ xs) ys a b = (a.0, both_look xs ys a.1 b)
-
--- whatever a walk takes their answers for
-taken_look : (moves : Moves) → Look (as_walked moves) → Look moves
-taken_look [] h = tt
-taken_look (m ∷ moves) h = (h.0, taken_look moves h.1)
-
-below_look : (top : List ℕ) (moves : Moves) (reply : Reply) → ListsBelow top moves reply → Look moves
-below_look top moves reply run = taken_look moves (run_allowed looking_on (walk false top) (as_walked moves) reply (tt, (tt, tt)) run)
-
-each_look : (tops : List (List ℕ)) (parts : List Part) → ListsEach tops parts → Look (moves_in parts)
-each_look [] [] h = tt
-each_look (top ∷ tops) (part ∷ parts) h = both_look part.1 (moves_in parts) (below_look top part.1 (replies.Listed (map (λ f. Ok f) part.0)) h.0) (each_look tops parts h.2)
-each_look _ _ h = absurd h
-
-pub index_look : (site : Site) (items : List Item) (parts : List Part) (entries : List Found) (moves : Moves) → ListsIndex site items parts entries moves → Look moves
-index_look site items parts entries moves i =
-    subst Look (sym i.all) (both_look i.main (moves_in parts) (below_look _ i.main (replies.Listed items) i.listing) (each_look (linked_in i.main) parts i.linked))
-
-first_look : (tops : List (List ℕ)) (e : Error) (moves : Moves) → EndsFirst tops e moves → Look moves
-first_look [] e moves h = subst Look (sym h.1) tt
-first_look (top ∷ tops) e moves h = below_look top moves h.0 h.1
-
-pub ends_look : (site : Site) (e : Error) (moves : Moves) → EndsIndex site e moves → Look moves
-ends_look site e moves (inl h) = below_look _ moves h.0 h.1
-ends_look site e moves (inr (items, own, are, main, lists, more, ends, all)) =
-    let rest : Look more = subst Look (sym ends.all) (both_look (moves_in ends.parts) ends.last (each_look ends.done ends.parts ends.listed) (first_look ends.rest e ends.last ends.stop)) in
-    subst Look (sym all) (both_look main more (below_look _ main (replies.Listed items) lists) rest)
-
 pub folders_look : (todo : List Folder) (moves : Moves) → ReadsFolders todo moves → Look moves
 folders_look todo [] h = tt
 folders_look [] (m ∷ moves) h = absurd h
@@ -221,6 +180,10 @@ then_keeps old mid new a b = record {
   gains = gains_join old mid new a.moves b.moves a.gains b.gains;
   stays = λ t. tree_rest t a.moves b.moves (a.stays t) ∙ b.stays t;
 }
+
+-- a listing of the index leaves each tree
+pub index_keeps : (site : Site) (reply : Reply) (old new : Option (List LogItem)) → Ran (opening site commands.Ls) reply old new → Keeps old new
+index_keeps site reply old new ran = gained old new ran.0 ran.2 (calls_keep_to looking_on site commands.Ls ran.0 reply tt ran.1)
 
 -- ---- calls that only look
 

@@ -1,13 +1,12 @@
 -- What a verification and a collection ask of a cache, call by call.
 use Rattle.std.specs.Prelude.{◌≡◌, ◌⊎◌, ◌++◌, ◌≤◌, All, ℕ, List, [], ◌∷◌, Bool, false, Option, Ok, Err, filter, length, map, not}
-use Rattle.cacache_core.specs.{declared.{errors.{Error.{Error, TheVariants.{IoError, OutOfMemory}}, Fault.TheVariants.{IsADirectory, NotFound}}, integrity.digest.Hash.{Hash}}, Integrity.{IsIntegrity}, Meeting.{lists}, Paths.{index_area, join}}
+use Rattle.cacache_core.specs.{declared.{errors.{Error.{Error, TheVariants.{IoError, OutOfMemory}}, Fault.TheVariants.{NotFound}}, integrity.digest.Hash.{Hash}}, Integrity.{IsIntegrity}, Meeting.{lists}}
 use Rattle.cacache_store.specs.declared.store.log.LogItem.{LogItem}
 use Rattle.cacache_entry.specs.Latest.{Found}
-use Rattle.cacache_calls.specs.{declared.{command.Command.{Command}, reply.Reply.{Reply}}, State.{Site, Item}, Table.{opening}, Common.{fails}, Runs.{EndsAs, Gains, Moves, Ran, without_message}}
+use Rattle.cacache_calls.specs.{declared.{command.Command.{Command}, reply.Reply.{Reply}}, State.{Site, Item}, Table.{opening}, Runs.{Ran, without_message}}
 use Rattle.cacache_calls.specs.declared.command.Command.TheVariants as commands
 use Rattle.cacache_calls.specs.declared.reply.Reply.TheVariants as replies
 use Rattle.cacache_laws.specs.trees.Collecting.{is_live}
-use Rattle.cacache_keep.specs.Linked.{ListsBelow, ListsEach, Part, entries_in, linked_in, moves_in}
 
 -- the log gained runs of these calls with these replies, one after another
 abbrev pub MadeCalls : Site → List (Command × Reply)
@@ -27,29 +26,12 @@ HasNoIndex items = (message : List ℕ) × (items ≡ Err (IoError NotFound mess
 abbrev pub AreEntries : List Item → List Found → Type 0
 AreEntries items entries = (items ≡ map Ok entries) ⊎ (HasNoIndex items × (entries ≡ []))
 
--- the folder of the index
-abbrev pub index_of : Site → List ℕ
-index_of site = join site.cache index_area
-
--- The moves list the index, with these items, and then each folder that a link in it leads to. These
--- are the entries of both.
-pub record ListsIndex
-    (site : Site) (items : List Item) (parts : List Part) (entries : List Found)
-    (moves : Moves) : Type 0 where
-  pub own : List Found
-  pub are : AreEntries items own
-  pub main : Moves
-  pub listing : ListsBelow (index_of site) main (replies.Listed items)
-  pub linked : ListsEach (linked_in main) parts
-  pub all : moves ≡ main ++ moves_in parts
-  pub both : entries ≡ own ++ entries_in parts
-
--- the log gained a listing of the index, which has these entries
+-- the log gained a listing of the index, as `ls` makes it, and the index has these entries
 abbrev pub ListsEntries :
     Site → List Found → Option (List LogItem) → Option (List LogItem) → Type 0
 ListsEntries site entries old new =
-    (items : List Item) × (parts : List Part)
-    × ((moves : Moves) × ListsIndex site items parts entries moves × Gains old new moves)
+    (items : List Item) × AreEntries items entries
+    × Ran (opening site commands.Ls) (replies.Listed items) old new
 
 -- ---- entries whose content is asked for
 
@@ -107,13 +89,13 @@ IsFirstError items e =
     (entries : List Found) × (rest : List Item) × (items ≡ map Ok entries ++ Err e ∷ rest)
 
 -- so it is, and the items don't say that the folder of the index isn't there
-abbrev pub IsOwnError : List Item → Error → Type 0
-IsOwnError items e = IsFirstError items e × (HasNoIndex items → ⊥)
+abbrev pub IsIndexError : List Item → Error → Type 0
+IsIndexError items e = IsFirstError items e × (HasNoIndex items → ⊥)
 
 -- the reply says the error: it is why the call was refused, or the first item that couldn't be read
 abbrev pub SaysError : Reply → Error → Type 0
 SaysError (replies.Refused error) e = error ≡ without_message e
-SaysError (replies.Listed items) e = IsOwnError items (without_message e)
+SaysError (replies.Listed items) e = IsIndexError items (without_message e)
 SaysError reply e = ⊥
 
 -- the last of the calls says the error, or memory ran out
@@ -131,52 +113,12 @@ pub record StopsQuestions
   pub harmless : All (λ c. Asks c.0) calls
   pub why : SaysWhy calls e
 
--- the moves list what is below the folder, and the reply says the error, or memory ran out
-abbrev pub EndsListing : List ℕ → Error → Moves → Type 0
-EndsListing top e moves =
-    (reply : Reply) × ListsBelow top moves reply × ((e ≡ OutOfMemory) ⊎ SaysError reply e)
-
--- of a folder that a link leads to: it is the first among its items, or a link there leads on
-abbrev pub SaysLinked : Moves → Reply → Error → Type 0
-SaysLinked moves (replies.Listed items) e =
-    IsFirstError items (without_message e)
-    ⊎ ((linked_in moves ≡ [] → ⊥) × EndsAs e (fails IsADirectory))
-SaysLinked moves reply e = ⊥
-
--- the moves list such a folder, whose reply says the error, or memory ran out
-abbrev pub EndsFolder : List ℕ → Error → Moves → Type 0
-EndsFolder top e moves =
-    (reply : Reply) × ListsBelow top moves reply
-    × ((e ≡ OutOfMemory) ⊎ SaysLinked moves reply e)
-
--- so it is with the first of these folders; or there is none, and memory ran out
-abbrev pub EndsFirst : List (List ℕ) → Error → Moves → Type 0
-EndsFirst [] e moves = (e ≡ OutOfMemory) × (moves ≡ [])
-EndsFirst (top ∷ tops) e moves = EndsFolder top e moves
-
--- the moves list some of these folders, and the error ended the listing of the next one
-pub record EndsLinked (tops : List (List ℕ)) (e : Error) (moves : Moves) : Type 0 where
-  pub done : List (List ℕ)
-  pub rest : List (List ℕ)
-  pub split : tops ≡ done ++ rest
-  pub parts : List Part
-  pub listed : ListsEach done parts
-  pub last : Moves
-  pub stop : EndsFirst rest e last
-  pub all : moves ≡ moves_in parts ++ last
-
--- it ended the listing of the index, or after it that of a folder that a link in it leads to
-abbrev pub EndsIndex : Site → Error → Moves → Type 0
-EndsIndex site e moves =
-    EndsListing (index_of site) e moves
-    ⊎ ((items : List Item) × (own : List Found) × AreEntries items own
-    × (main : Moves) × ListsBelow (index_of site) main (replies.Listed items)
-    × (more : Moves) × EndsLinked (linked_in main) e more × (moves ≡ main ++ more))
-
--- the log gained such moves
+-- the log gained a listing of the index, which says the error, or memory ran out
 abbrev pub StopsIndex :
     Site → Error → Option (List LogItem) → Option (List LogItem) → Type 0
-StopsIndex site e old new = (moves : Moves) × EndsIndex site e moves × Gains old new moves
+StopsIndex site e old new =
+    (reply : Reply) × Ran (opening site commands.Ls) reply old new
+    × ((e ≡ OutOfMemory) ⊎ SaysError reply e)
 
 -- the error ended the listing of the index, or questions for contents after it
 abbrev pub StopsReading :

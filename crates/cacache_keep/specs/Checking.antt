@@ -1,13 +1,13 @@
 -- What a listing of the index tells of lines that this crate can't read, and what is done about them, over any store.
-use Rattle.std.specs.{Prelude.{◌≡◌, ◌++◌, ℕ, List, [], ◌∷◌, Bool, Option, None, Some, filter_map, if◌then◌else◌}, List.{list_any}}
+use Rattle.std.specs.{Prelude.{◌≡◌, ℕ, List, [], ◌∷◌, Bool, Option, None, Some, filter_map, if◌then◌else◌}, List.{list_any}}
 use Rattle.cacache_core.specs.declared.errors.{Error.{Error}, Fault.TheVariants.{Unsupported}}
 use Rattle.cacache_store.specs.declared.store.answer.Answer.TheVariants as answers
 use Rattle.cacache_store.specs.{declared.store.log.LogItem.{LogItem}, Plain.{PlainStep, PlainAnswer}}
 use Rattle.cacache_store.specs.declared.store.step.Step.TheVariants as steps
 use Rattle.cacache_entry.specs.Latest.{Found}
-use Rattle.cacache_calls.specs.{Common.{fails}, Runs.{EndsAs, Gains, Moves}, State.{Site}}
+use Rattle.cacache_calls.specs.{Common.{fails}, Runs.{EndsAs, Moves}, State.{Site}}
 use Rattle.cacache_laws.specs.trees.Compacting.{is_odd, lines_of}
-use Rattle.cacache_keep.specs.{declared.checking.OddLines.{OddLines, TheVariants.{Refuse, Ignore}}, Calls.{EndsFolder, EndsLinked, ListsEntries}, Linked.{ListsEach, Part, entries_in, moves_in}}
+use Rattle.cacache_keep.specs.{declared.checking.OddLines.{OddLines, TheVariants.{Refuse, Ignore}}, Calls.{ListsEntries}}
 
 -- whether bytes have an odd line
 abbrev pub has_odd : List ℕ → Bool
@@ -36,32 +36,6 @@ abbrev pub ReadsIndex : Site → List Found → List (List ℕ)
     → Option (List LogItem) → Option (List LogItem) → Type 0
 ReadsIndex site entries odd old new =
     (l : ListsEntries site entries old new) × (odd ≡ odd_in l.2.0)
-
--- the log gained a listing of a folder that a link leads to, with these entries and buckets
-abbrev pub ReadsFolder : List ℕ → List Found → List (List ℕ)
-    → Option (List LogItem) → Option (List LogItem) → Type 0
-ReadsFolder top entries odd old new =
-    (moves : Moves) × ListsEach (top ∷ []) ((entries, moves) ∷ []) × Gains old new moves
-    × (odd ≡ odd_in moves)
-
--- the log gained listings of these folders, whose entries and buckets are added to the others
-pub record AddsFolders
-    (tops : List (List ℕ)) (own : List Found) (odd : List (List ℕ))
-    (entries : List Found) (more : List (List ℕ)) (old new : Option (List LogItem)) : Type 0 where
-  pub parts : List Part
-  pub listed : ListsEach tops parts
-  pub gains : Gains old new (moves_in parts)
-  pub both : entries ≡ own ++ entries_in parts
-  pub met : more ≡ odd ++ odd_in (moves_in parts)
-
--- the error ended the listing of such a folder, or of one of these
-abbrev pub StopsFolder :
-    List ℕ → Error → Option (List LogItem) → Option (List LogItem) → Type 0
-StopsFolder top e old new = (moves : Moves) × EndsFolder top e moves × Gains old new moves
-
-abbrev pub StopsFolders :
-    List (List ℕ) → Error → Option (List LogItem) → Option (List LogItem) → Type 0
-StopsFolders tops e old new = (moves : Moves) × EndsLinked tops e moves × Gains old new moves
 
 -- there are none of these buckets, if odd lines are refused
 abbrev pub Allows : OddLines → List (List ℕ) → Type 0

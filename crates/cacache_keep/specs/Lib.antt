@@ -1,5 +1,4 @@
 pub mod Calls
-pub mod Linked
 pub mod Keeping
 pub mod Kept
 pub mod Behind

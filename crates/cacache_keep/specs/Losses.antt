@@ -1,5 +1,5 @@
--- What a loss of power leaves of the buckets that a durable compaction wrote anew.
-use Rattle.std.specs.Prelude.{◌≡◌, ◌⊎◌, ◌++◌, ℕ, List, [], ◌∷◌, Option, None, Some, true}
+-- What a loss of power leaves of the buckets that a compaction wrote anew.
+use Rattle.std.specs.Prelude.{◌≡◌, ◌⊎◌, ◌++◌, ℕ, List, [], ◌∷◌, Bool, Option, None, Some, true}
 use Rattle.sha1.specs.Sha1.{sha1}
 use Rattle.cacache_core.specs.{declared.errors.Error.{Error}, PathLaws.{IsKeyDigest}, PathNames.{Names, home_of}, Paths.{bucket_names_of}}
 use Rattle.cacache_store.specs.declared.store.log.LogItem.{LogItem}
@@ -9,7 +9,7 @@ use Rattle.cacache_calls.specs.Runs.{Gains, Moves}
 use Rattle.cacache_laws.specs.{Sequence.{plain_moves}, trees.{Compacting.{compact_text}, Mending.{found_in}}}
 use Rattle.cacache_value.specs.{Placed.{Placed}, Traces.{Move}}
 use Rattle.cacache_loss.specs.{CalmMoves.{AreCalm}, Fixing.{Fixed}, Loss.{Loss}, LossLaws.{BeginsWith, FindsOrLater}, LostValues.{LeftOf}, Moments.{EachMove, Moment, after}, Syncs.{Leaves}}
-use Rattle.cacache_keep.specs.Compacting.{CompactsCache, StopsCompacting}
+use Rattle.cacache_keep.specs.{Compacting.{CompactsCache, StopsCompacting}, Rewriting.{syncs_first}}
 
 -- the moment after these moves, from a tree that had so much fixed
 abbrev pub moment_after : Tree → Fixed → Moves → Moment
@@ -120,30 +120,30 @@ CompactionsGrow =
 
 -- ---- during a compaction
 
--- in the second tree each bucket of the first has exactly its bytes or its compacted ones, and each
--- key that led to an entry leads to it
-pub record KeepsEither (home : Names) (t left : Tree) : Type 0 where
-  pub buckets : (digest bytes : List ℕ) → IsKeyDigest digest
-      → look t (home ++ bucket_names_of digest) ≡ Some (File bytes)
-      → (look left (home ++ bucket_names_of digest) ≡ Some (File bytes))
-      ⊎ (look left (home ++ bucket_names_of digest) ≡ Some (File (compact_text true bytes)))
-  pub keys : (key : List ℕ) (found : Found)
+-- in the second tree the bucket at the digest has exactly its bytes or its compacted ones, and each
+-- of its keys that led to an entry leads to it
+pub record KeepsEither
+    (durable : Bool) (home : Names) (digest bytes : List ℕ) (t left : Tree) : Type 0 where
+  pub bucket : (look left (home ++ bucket_names_of digest) ≡ Some (File bytes))
+      ⊎ (look left (home ++ bucket_names_of digest) ≡ Some (File (compact_text durable bytes)))
+  pub keys : (key : List ℕ) (found : Found) → sha1 key ≡ digest
       → found_in home t key ≡ Some found → found_in home left key ≡ Some found
 
--- the log gained a durable compaction, or as much of one as came before an error
-abbrev pub CompactsDurably : List ℕ → Option (List LogItem) → Option (List LogItem) → Type 0
-CompactsDurably cache old new =
-    ((count bytes : ℕ) × CompactsCache true cache count bytes old new)
-    ⊎ ((e : Error) × StopsCompacting true cache e old new)
+-- the log gained a compaction, durable or not, or as much of one as came before an error
+abbrev pub CompactsSo : Bool → List ℕ → Option (List LogItem) → Option (List LogItem) → Type 0
+CompactsSo durable cache old new =
+    ((count bytes : ℕ) × CompactsCache durable cache count bytes old new)
+    ⊎ ((e : Error) × StopsCompacting durable cache e old new)
 
--- so it is in what a loss leaves after any of its moves, if all buckets were fixed before, as they
--- are after an earlier durable compaction
+-- so it is in what a loss leaves after any of its moves, if the bucket was fixed before, as it is
+-- after a durable put, and the compaction is durable or the bytes end with a line feed
 abbrev pub CompactionsSpare : Type 0
 CompactionsSpare =
-    (cache : List ℕ) (home : Names) (first rest : Moves) (fixed : Fixed) (loss : Loss)
-    (old new : List LogItem) (left : Tree)
-    → home_of cache ≡ Some home → IsLog new → CompactsDurably cache (Some old) (Some new)
+    (durable : Bool) (cache : List ℕ) (home : Names) (first rest : Moves) (fixed : Fixed)
+    (loss : Loss) (old new : List LogItem) (left : Tree) (digest bytes : List ℕ)
+    → home_of cache ≡ Some home → IsLog new → CompactsSo durable cache (Some old) (Some new)
     → Gains (Some old) (Some new) (first ++ rest)
-    → BucketsFixed home (tree_of old) fixed
+    → look (tree_of old) (home ++ bucket_names_of digest) ≡ Some (File bytes)
+    → IsFixedAt fixed home (bucket_names_of digest) → syncs_first durable bytes ≡ true
     → LeftOf home (moment_after (tree_of old) fixed first) loss left
-    → KeepsEither home (tree_of old) left
+    → KeepsEither durable home digest bytes (tree_of old) left

@@ -56,16 +56,16 @@ pub fn collect_with<S: Store, C: Clock, N: Names>(
 /// target stays. Whatever else lies among the contents stays.
 ///
 /// A folder of the index that isn't there has no items, so every content is removed then; a link in its place that
-/// leads to nothing is an `IoError`. A link in the index to a folder is listed, as `verify` does. Collect a cache while nobody writes to it: a content is stored before its entry.
+/// leads to nothing is an `IoError`. Collect a cache while nobody writes to it: a content is stored before its entry.
 /// It asks no content for its size: `plan`, called before it, gives the bytes of each that it will remove.
 ///
 /// A line of the index with a right digest that this crate can't read is odd: another reader may read it, and the content
 /// that it names. So a cache with such a line isn't collected: the call ends with an `IoError` of `Unsupported`, which
 /// names the first such bucket. `collect_with` can go on. Each bucket is read once.
 ///
-/// Errors are those of `content::read::list`, the first error among the items of the index, and then that one, all of
-/// them before anything is removed. A removal that failed ends the call, and those before it stay done. `OutOfMemory`
-/// may come at any time.
+/// Errors are those of `content::read::list`, the first error that `ls` gives, as for a link in the index to a folder, and
+/// then that one, all of them before anything is removed. A removal that failed ends the call, and those before it stay
+/// done. `OutOfMemory` may come at any time.
 pub fn collect<S: Store, C: Clock, N: Names>(
     env: &mut Env<S, C, N>,
     cache: &str,

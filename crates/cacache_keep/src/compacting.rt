@@ -92,8 +92,9 @@ fn compact_all<S: Store, C: Clock, N: Names>(
 ///
 /// A bucket is a file of the index two folders down, whose path has the names that a key's digest gives. All else
 /// there stays, a link in a bucket's place too. The new bytes are written to a temporary file, which
-/// is moved over the bucket: whatever fails, a bucket has its old bytes or its new ones. Nothing is
-/// synced, unless that is asked for by `CompactOpts::durable`.
+/// is moved over the bucket: whatever fails, a bucket has its old bytes or its new ones. If the bucket ends with a line
+/// feed, as a durable put leaves it, the new bytes are synced before the move, so that a loss of power leaves one or
+/// the other. Nothing else is synced, unless that is asked for by `CompactOpts::durable`.
 ///
 /// Over real folders a rewritten bucket keeps its mode and its owner. If the owner can't be kept, the call ends with an
 /// error that names the bucket, which stays as it was.
@@ -124,7 +125,7 @@ pub struct CompactOpts {
 }
 
 impl CompactOpts {
-    /// Blank options: nothing is synced.
+    /// Blank options: only the new bytes of buckets that end with a line feed are synced.
     pub fn new() -> CompactOpts
         ensures { result.durable ≡ false }
     {
@@ -132,7 +133,7 @@ impl CompactOpts {
     }
 
     /// With the choice of whether what a compaction leaves is to outlast a loss of power. A durable one gives each
-    /// bucket a last line feed. It syncs a bucket's new bytes before they are moved over it, and its folder after
+    /// bucket a last line feed. It syncs each bucket's new bytes before they are moved over it, and its folder after
     /// that. It also syncs a bucket that stays as it is, and its folder. At the end it syncs the folders above those,
     /// once each: the ones in the index, the index and the cache.
     pub fn durable(self, yes: bool) -> CompactOpts

@@ -1,18 +1,16 @@
 //! The entries of the index.
-ghost use Rattle.std.specs.Prelude.{◌≡◌, ◌⊎◌, ℕ, List, Ok, true, false, IfOk, IfErr, OnOk, map};
+ghost use Rattle.std.specs.Prelude.{◌≡◌, ◌⊎◌, ℕ, List, true, false, IfOk, IfErr};
 ghost use Rattle.cacache_core.specs.declared.errors.Error.TheVariants.{OutOfMemory};
 ghost use Rattle.cacache_jobs.specs.Sites.{site_of};
-ghost use Rattle.cacache_keep.specs.{Calls.{AreEntries, HasNoIndex, IsFirstError, IsOwnError, StopsIndex}, Checking.{AddsFolders, ReadsFolder, ReadsIndex, StopsFolder, StopsFolders}};
+ghost use Rattle.cacache_keep.specs.{Calls.{AreEntries, HasNoIndex, IsIndexError, StopsIndex}, Checking.{ReadsIndex}};
 
-use crate::walking::{Met, walk_below};
-use cacache_calls::{Found, Refusal};
+use crate::walking::{Met, walk_index};
+use cacache_calls::Found;
 use cacache_core::errors::{Error, Fault, Result};
 use cacache_core::keeping::let_go;
-use cacache_core::paths::{INDEX_AREA, join};
 use cacache_core::text::Text;
-use cacache_jobs::refused;
 use cacache_store::store::Store;
-use std::alloc::{AllocError, Global};
+use std::alloc::Global;
 
 /// The entries of all keys, and the paths of the buckets with odd lines, in the order of their reading.
 #[derive(Drop)]
@@ -35,86 +33,32 @@ fn has_no_index(items: &[std::result::Result<Found, Error>]) -> bool
     }
 }
 
-/// The items, if each is an entry; otherwise the first that is an error.
+/// The entries among the items of a listing, if no other item is there; otherwise the first error. There are none if the
+/// folder of the index isn't there.
 fn entries_of(alloc: Global, items: Vec<std::result::Result<Found, Error>>) -> Result<Vec<Found>>
-    ensures ok { IfOk result (λ entries. items.items ≡ map Ok entries.items) }
-    ensures err { IfErr result (λ e. (e ≡ OutOfMemory) ⊎ IsFirstError items.items e) }
+    ensures ok { IfOk result (λ entries. AreEntries items.items entries.items) }
+    ensures err { IfErr result (λ e. (e ≡ OutOfMemory) ⊎ IsIndexError items.items e) }
 {
     let mut entries = Vec::new(alloc);
+    if has_no_index(items.as_slice()) {
+        let_go(items);
+        return Ok(entries);
+    }
     for item in items {
         entries.push(item?)?;
     }
     Ok(entries)
 }
 
-/// The entries of the index itself: none if its folder isn't there.
-fn own_entries(alloc: Global, items: Vec<std::result::Result<Found, Error>>) -> Result<Vec<Found>>
-    ensures ok { IfOk result (λ entries. AreEntries items.items entries.items) }
-    ensures err { IfErr result (λ e. (e ≡ OutOfMemory) ⊎ IsOwnError items.items e) }
-{
-    if has_no_index(items.as_slice()) {
-        let_go(items);
-        return Ok(Vec::new(alloc));
-    }
-    entries_of(alloc, items)
-}
-
-/// A link below a folder that a link leads to leads on to a folder.
-fn leads_on(alloc: Global, path: &Text) -> std::result::Result<Text, AllocError> {
-    Ok(Text::new(format!(in alloc; "Error getting bucket entries from {path}")?))
-}
-
-/// The entries below a folder that a link in the index leads to, and the buckets there with odd lines. A link there
-/// must not lead on to a folder, so that the reading ends.
-fn read_folder<S: Store>(alloc: Global, store: &mut S, folder: Text) -> Result<Index>
-    ensures reads { IfOk result (λ index. ReadsFolder folder index.entries.items index.odd.items
-        (S.log store.old) (S.log store.new)) }
-    ensures stops { IfErr result (λ e. StopsFolder folder e (S.log store.old) (S.log store.new)) }
-{
-    let Met { items, odd, linked } = walk_below(alloc, store, folder)?;
-    let entries = entries_of(alloc, items)?;
-    match linked.as_slice().first() {
-        Some(path) => {
-            let refusal = Refusal::Fault(Fault::IsADirectory);
-            Err(refused(refusal, leads_on(alloc, path)))
-        }
-        None => Ok(Index { entries, odd }),
-    }
-}
-
-/// Adds what these folders have that links in the index lead to.
-fn read_folders<S: Store>(
-    alloc: Global,
-    store: &mut S,
-    index: &mut Index,
-    folders: Vec<Text>,
-) -> Result<()>
-    ensures adds { OnOk result (AddsFolders folders.items
-        index.old.entries.items index.old.odd.items index.new.entries.items index.new.odd.items
-        (S.log store.old) (S.log store.new)) }
-    ensures stops { IfErr result
-        (λ e. StopsFolders folders.items e (S.log store.old) (S.log store.new)) }
-{
-    for folder in folders {
-        let mut more = read_folder(alloc, store, folder)?;
-        index.entries.append(&mut more.entries)?;
-        index.odd.append(&mut more.odd)?;
-    }
-    Ok(())
-}
-
 /// The entries of all keys, and the buckets with odd lines. Each bucket is read once. An index whose folder isn't there
-/// has none. A link in the index to a folder is listed after the walk through the index; real folders refuse that listing.
+/// has none. The first error among the items of the listing ends it.
 pub(crate) fn read_index<S: Store>(alloc: Global, store: &mut S, cache: &str) -> Result<Index>
     ensures reads { IfOk result (λ index. (base : List ℕ) → ReadsIndex (site_of cache.now base 0)
         index.entries.items index.odd.items (S.log store.old) (S.log store.new)) }
     ensures stops { IfErr result (λ e. (base : List ℕ) → StopsIndex (site_of cache.now base 0) e
         (S.log store.old) (S.log store.new)) }
 {
-    let top = join(alloc, cache, INDEX_AREA)?;
-    let Met { items, odd, linked } = walk_below(alloc, store, top)?;
-    let entries = own_entries(alloc, items)?;
-    let mut index = Index { entries, odd };
-    read_folders(alloc, store, &mut index, linked)?;
-    Ok(index)
+    let Met { items, odd } = walk_index(alloc, store, cache)?;
+    let entries = entries_of(alloc, items)?;
+    Ok(Index { entries, odd })
 }

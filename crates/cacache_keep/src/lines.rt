@@ -222,7 +222,7 @@ fn text_of_last(alloc: Global, last: Vec<&Line>) -> std::result::Result<Vec<u8>,
 }
 
 /// Whether bytes end with a line feed.
-fn is_closed(bytes: &[u8]) -> bool
+pub(crate) fn is_closed(bytes: &[u8]) -> bool
     ensures { result ≡ is_closed_by bytes.now }
 {
     match bytes.split_last() {

@@ -89,9 +89,8 @@ fn sizes_of<S: Store>(
 /// Nothing changes. What a later `collect` removes is the same while nobody writes in between. It ends with an error if a
 /// bucket has a line that this crate can't read and another reader may: the plan names these buckets.
 ///
-/// Errors are those of `content::read::list`, the first error among the items of the index, and an `IoError` if a
-/// content didn't give its size, such as a link to a folder. `OutOfMemory` may come at any time. A link in the index to a
-/// folder is listed, as `verify` does.
+/// Errors are those of `content::read::list`, the first error that `ls` gives, as for a link in the index to a folder, and
+/// an `IoError` if a content didn't give its size, such as a link to a folder. `OutOfMemory` may come at any time.
 pub fn plan<S: Store, C: Clock, N: Names>(env: &mut Env<S, C, N>, cache: &str) -> Result<Planned>
     ensures plans { IfOk result (λ p. PlansAs (site_of cache.now env.old.base 0) p
         (S.log env.old.store) (S.log env.new.store)) }

@@ -81,8 +81,8 @@ fn entomb<S: Store, C: Clock, N: Names>(
 /// Tells what a `prune` with these limits would drop and keep, and how many bytes there are before and after it. It reads
 /// the index as `collect` does. Nothing changes.
 ///
-/// Errors are the first error among the items of the index. `OutOfMemory` may come at any time. An index whose folder isn't
-/// there has no entries.
+/// Errors are the first that `ls` gives, as for a link in the index to a folder. `OutOfMemory` may come at any time. An
+/// index whose folder isn't there has no entries.
 pub fn plan_prune<S: Store, C: Clock, N: Names>(
     env: &mut Env<S, C, N>,
     cache: &str,

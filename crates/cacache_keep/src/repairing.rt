@@ -92,10 +92,9 @@ pub fn repair_with<S: Store, C: Clock, N: Names>(
 /// after it would hide it. So a cache with such a line isn't repaired: the index is read before all else, each bucket
 /// once, and the call ends with an `IoError` of `Unsupported`, which names the first such bucket. `repair_with` can go on.
 ///
-/// Errors are the first among the items of the index, then that one, those of `verify` about contents, of a removal, of
-/// the second walk and of a tombstone, and the one about a content that may be there. Contents before the error are
-/// removed then, and keys before it have tombstones. `OutOfMemory` may come at any time. A link in the index to a folder
-/// is listed, as `verify` does. The tombstone of a key below it goes to the bucket that a lookup of the key reads.
+/// Errors are the first that `ls` gives, as for a link in the index to a folder, then that one, those of `verify` about
+/// contents, of a removal, of the second walk and of a tombstone, and the one about a content that may be there. Contents
+/// before the error are removed then, and keys before it have tombstones. `OutOfMemory` may come at any time.
 pub fn repair<S: Store, C: Clock, N: Names>(env: &mut Env<S, C, N>, cache: &str) -> Result<Repaired>
     ensures repairs { IfOk result (λ r. RepairsAs Refuse (site_of cache.now env.old.base 0) r
         (S.log env.old.store) (S.log env.new.store)) }

@@ -43,12 +43,9 @@ pub struct Verdict {
 /// A content whose bytes don't meet its address is damaged, and so is one that was gone when it was
 /// to be opened. One that is a link is judged by its target's bytes, and is damaged where it leads to
 /// nothing. Errors are those of `content::read::list`, of an opening or a read that failed
-/// otherwise, and the first error among the items of the index. A folder of the index that isn't
-/// there has no items; a link in its place that leads to nothing is an `IoError`. `OutOfMemory` may
-/// come at any time.
-///
-/// A link in the index to a folder is listed after the walk through the index. Real folders and a disk in memory refuse that,
-/// which is an `IoError` that names the link. On a store that lists it, the buckets below it count as the index's own.
+/// otherwise, and the first error that `ls` gives: one is that of a link in the index to a folder,
+/// which isn't followed. A folder of the index that isn't there has no items; a link in its place
+/// that leads to nothing is an `IoError`. `OutOfMemory` may come at any time.
 pub fn verify<S: Store, C: Clock, N: Names>(env: &mut Env<S, C, N>, cache: &str) -> Result<Verdict>
     ensures verifies { IfOk result (λ v. VerifiesAs (site_of cache.now env.old.base 0) v
         (S.log env.old.store) (S.log env.new.store)) }

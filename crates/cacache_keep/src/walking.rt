@@ -1,27 +1,26 @@
-//! A walk through the index, which reads each bucket once, and notes those with odd lines and those that are folders.
+//! A walk through the index, which reads each bucket once, and notes those with odd lines.
 ghost use Rattle.std.specs.{Prelude.{◌≡◌, ◌++◌, IfOk, IfErr, OnOk, map}, Option.{option_to_list}};
 ghost use Rattle.cacache_core.specs.declared.errors.Error.TheVariants.{OutOfMemory};
 ghost use Rattle.cacache_store.specs.Plain.{plain_answer};
 ghost use Rattle.cacache_calls.specs.{Runs.{plain_item}, Walking.{visit_step}};
-ghost use Rattle.cacache_keep.specs.{Checking.{bucket_read, odd_bucket}, Linked.{linked_read, taken_as}, Walking.{IsTold, LosesIndex, MeetsIndex, VisitGoes, VisitStops, entry_at}};
+ghost use Rattle.cacache_keep.specs.{Checking.{bucket_read, odd_bucket}, Walking.{IsTold, LosesIndex, MeetsIndex, VisitGoes, VisitStops, entry_at}};
 
 use crate::odd::has_odd_beside;
 use cacache_calls::{Found, Visit};
 use cacache_core::bytes::Bytes;
-use cacache_core::errors::{Error, Fault, Result};
+use cacache_core::errors::{Error, Result};
+use cacache_core::paths::{INDEX_AREA, join};
 use cacache_core::text::Text;
 use cacache_store::store::{Answer, FileHandle, Store, TempHandle};
 use cacache_walks::Walk;
 use std::alloc::{AllocError, Global};
 use std::mem::swap;
 
-/// The items of a listing, and the paths of the buckets with odd lines and of those that are links to folders, in the
-/// order of their reading.
+/// The items of a listing, and the paths of the buckets with odd lines, in the order of their reading.
 #[derive(Drop)]
 pub(crate) struct Met {
     pub(crate) items: Vec<std::result::Result<Found, Error>>,
     pub(crate) odd: Vec<Text>,
-    pub(crate) linked: Vec<Text>,
 }
 
 /// The path and the bytes of the bucket that a visit read. No byte is copied.
@@ -69,45 +68,22 @@ fn note(
     Ok(())
 }
 
-/// Notes the path of a bucket that is a folder. The walk takes it for a bucket that isn't there.
-fn pass<F: FileHandle, T: TempHandle>(
-    linked: &mut Vec<Text>,
-    visit: &Visit,
-    answer: Answer<F, T>,
-) -> Result<Answer<F, T>>
-    ensures notes { OnOk result (linked.new.items ≡ linked.old.items ++ option_to_list
-        (linked_read (visit_step visit.now) (plain_answer F.seen T.seen answer))) }
-    ensures passes { IfOk result (λ given. plain_answer F.seen T.seen given
-        ≡ taken_as (visit_step visit.now) (plain_answer F.seen T.seen answer)) }
-    ensures memory { IfErr result (λ e. e ≡ OutOfMemory) }
-{
-    if let Visit::ReadBucket(path) = visit {
-        if let Answer::Failed(Fault::IsADirectory) = &answer {
-            linked.push(path.clone()?)?;
-            return Ok(Answer::Failed(Fault::NotFound));
-        }
-    }
-    Ok(answer)
-}
-
 /// Makes a visit of the walk, and goes on to the next one.
 fn make<S: Store>(
     alloc: Global,
     store: &mut S,
     walk: &mut Walk,
     odd: &mut Vec<Text>,
-    linked: &mut Vec<Text>,
     visit: Visit,
 ) -> Result<Option<Visit>>
-    ensures goes { IfOk result (λ next. VisitGoes visit walk.old odd.old.items linked.old.items
-        next walk.new odd.new.items linked.new.items (S.log store.old) (S.log store.new)) }
-    ensures stops { IfErr result (λ e. VisitStops visit walk.old odd.old.items linked.old.items e
+    ensures goes { IfOk result (λ next. VisitGoes visit walk.old odd.old.items
+        next walk.new odd.new.items (S.log store.old) (S.log store.new)) }
+    ensures stops { IfErr result (λ e. VisitStops visit walk.old odd.old.items e
         (S.log store.old) (S.log store.new)) }
 {
     let step = visit.step()?;
     let answer = store.step(step);
     let bucket = bucket_of(&visit, &answer)?;
-    let answer = pass(linked, &visit, answer)?;
     let before = walk.items.len();
     let next = walk.resume(alloc, visit, answer)?;
     let lists = is_entry_at(walk.items.as_slice(), before);
@@ -115,20 +91,20 @@ fn make<S: Store>(
     Ok(next)
 }
 
-/// Lists the buckets below a folder.
-pub(crate) fn walk_below<S: Store>(alloc: Global, store: &mut S, top: Text) -> Result<Met>
-    ensures meets { IfOk result (λ met. MeetsIndex top (map plain_item met.items.items)
-        met.odd.items met.linked.items (S.log store.old) (S.log store.new)) }
-    ensures stops { IfErr result (λ e. LosesIndex top e (S.log store.old) (S.log store.new)) }
+/// Lists the index of a cache.
+pub(crate) fn walk_index<S: Store>(alloc: Global, store: &mut S, cache: &str) -> Result<Met>
+    ensures meets { IfOk result (λ met. MeetsIndex cache.now (map plain_item met.items.items)
+        met.odd.items (S.log store.old) (S.log store.new)) }
+    ensures stops { IfErr result
+        (λ e. LosesIndex cache.now e (S.log store.old) (S.log store.new)) }
 {
-    let (mut walk, visit) = Walk::new(alloc, false, top)?;
+    let (mut walk, visit) = Walk::new(alloc, false, join(alloc, cache, INDEX_AREA)?)?;
     let mut odd = Vec::new(alloc);
-    let mut linked = Vec::new(alloc);
     let mut next = Some(visit);
     'visits: while let Some(visit) = next {
-        next = make(alloc, store, &mut walk, &mut odd, &mut linked, visit)?;
+        next = make(alloc, store, &mut walk, &mut odd, visit)?;
     }
     let mut items = Vec::new(alloc);
     swap(&mut items, &mut walk.items);
-    Ok(Met { items, odd, linked })
+    Ok(Met { items, odd })
 }

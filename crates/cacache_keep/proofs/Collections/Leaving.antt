@@ -13,7 +13,7 @@ use Rattle.cacache_laws.specs.{Sequence.{tree_on, AreAnswered}, trees.{Contents.
 use Rattle.cacache_laws.proofs.{Calls.InParts.{logs_lead}, trees.{Listing.{holdings_agree, indexes_agree, same_sorted}, Indexed.{holds_just}, Logged.{answered_rest, answered_split, gains_join, log_rooted, tree_rest, walked}, Collected.{lacks, leaves, others_gone, picked_left, rest_stays, from_kept, kept_in}, Removed.{removals_run}, Members.{Member, contains_member, member_contains}, Twins.Follows.{idle_is_unseen}, Spared.SparedKeys.{spared_keys_stay}}, Readings.GivenReads.{same_stays_known}}
 use Rattle.cacache_walks.specs.{Listing.{content_area_in, hash_cmp}, Reading.{top_folder}}
 use Rattle.cacache_keep.specs.{Calls.{has_entry, removal, MadeCalls}, Keeping.{Chooses, CollectsFrom}, Kept.{PlansForetell, PlansLeave, CollectionsLackIdle, CollectionsLeave, CollectionsSettle}, Planning.{Sized, TellsSizes}, Sparing.{StaysLed}}
-use Rattle.cacache_keep.proofs.{Stopped.{calls_gain, gains_none, Keeps, gained, then_keeps}, Indexes.StandingIndexes.{index_looked}, Collections.Searching.{hash_total}, Asked.{none_kept}}
+use Rattle.cacache_keep.proofs.{Stopped.{calls_gain, gains_none, Keeps, gained, then_keeps}, Repairs.Judged.{index_looked}, Collections.Searching.{hash_total}, Asked.{none_kept}}
 use Rattle.cacache_value.specs.{Placed.{Placed}, Value.{value_of_tree}}
 use Rattle.cacache_store.specs.declared.store.answer.Answer.TheVariants as answers
 use Rattle.cacache_store.specs.declared.store.step.Step.TheVariants as steps
@@ -38,7 +38,7 @@ module _ (site : Site) (home : Names) (kept : ℕ) (dropped : List (List Hash)) 
       let lead = logs_lead old new (list.0 ++ (l.0 ++ more)) gains logged in
       let walk = walked t list.0 (top_folder (content_area_in site.cache) ∷ []) list.2 (answered_split t list.0 (l.0 ++ more) lead.0).0 in
       let after_walk = answered_rest t list.0 (l.0 ++ more) walk.1 lead.0 in
-      let index = index_looked site home t c.listing.0 c.listing.1 c.entries l.0 is (log_rooted old) l.1 (answered_split t l.0 more after_walk).0 in
+      let index = index_looked site t c.entries c.found chosen c.listing (answered_split t l.0 more after_walk).0 in
       record {
         holds = holds_just site.cache home t list.0 is (log_rooted old) list.2 walk.0 c.addresses c.strange list.3 c.order;
         index = index.0;

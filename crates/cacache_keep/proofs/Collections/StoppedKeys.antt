@@ -15,7 +15,7 @@ use Rattle.cacache_walks.specs.{Listing.{ListsContents, content_area_in}, Readin
 use Rattle.cacache_laws.specs.{Beside.{ShareAddress}, Caches.{Called, HasKey, IsCache}, Keeping.{found_under}, Looks.{OnlyLooks}, ReadAnswers.{entries_on}, Sequence.{IsSound}, Standing.{IsStanding}, trees.{Collecting.{IsCollected, Removes, is_live}, Contents.{content_in}, Later.{SparingCall}, Mending.{found_in}}}
 use Rattle.cacache_laws.proofs.{Calls.{InParts.{logs_lead}, Logs.{some_same}, CallErrors.{plain_error}}, Readings.{GivenReads.{same_stays_known}, OpenReaders.{log_front}}, Removing.Removed.{contents_go}, trees.{Collected.{from_kept, live_so}, Keeping.{removals_leave}, Led.{found_listed}, Logged.{gains_join, log_rooted}, Members.{Member, contains_member, member_contains}, SoundRemovals.{removals_leave_sound}}}
 use Rattle.cacache_keep.specs.{declared.checking.OddLines.{OddLines}, Behind.{KeepsKeys, StoppedKeepKeys}, Calls.{Asks, ListsEntries, MadeCalls, StopsReading, StopsRemoving, has_entry, removal}, Keeping.{Chooses, StopsCollecting, StopsEarly}, Sparing.{StaysLed}}
-use Rattle.cacache_keep.proofs.{Collections.{Behind.{found_same, key_same, removals_stand}, Leaving.{Choice, choice, removals, removals_gain, removed_by, unused_ones, call_led, keeps_led, then_led}}, Stopped.{AllLook, calls_gain, index_look, ends_look, folders_look, stops_look, gained, then_keeps, Keeps, made_looks}}
+use Rattle.cacache_keep.proofs.{Collections.{Behind.{found_same, key_same, removals_stand}, Leaving.{Choice, choice, removals, removals_gain, removed_by, unused_ones, call_led, keeps_led, then_led}}, Stopped.{AllLook, calls_gain, folders_look, index_keeps, stops_look, gained, then_keeps, Keeps, made_looks}}
 
 -- ---- moves that only look
 
@@ -29,10 +29,10 @@ all_look (c ∷ calls) h = (asks_look c.0 (All-head (λ (c : Command × Reply). 
 
 module _ (site : Site) where
   pub listing_keeps : (entries : List Found) (old new : Option (List LogItem)) → ListsEntries site entries old new → Keeps old new
-  listing_keeps entries old new (items, parts, (moves, i, gains)) = gained old new moves gains (index_look site items parts entries moves i)
+  listing_keeps entries old new l = index_keeps site (replies.Listed l.0) old new l.2
 
   reading_keeps : (e : Error) (old new : Option (List LogItem)) → StopsReading site e old new → Keeps old new
-  reading_keeps e old new (inl (moves, ends, gains)) = gained old new moves gains (ends_look site e moves ends)
+  reading_keeps e old new (inl stop) = index_keeps site stop.0 old new stop.1
   reading_keeps e old new (inr (entries, listed, l, q)) = then_keeps old listed new (listing_keeps entries old listed l) (made_looks site q.calls listed new (all_look q.calls q.harmless) q.made).keeps
 
   contents_keep : (addresses : List (List Hash)) (strange : List (List ℕ)) (old new : Option (List LogItem)) → ListsContents site.cache addresses strange old new → Keeps old new

@@ -9,7 +9,7 @@ use Rattle.cacache_calls.specs.{declared.{reply.Reply.TheVariants.{Done, Listed,
 use Rattle.cacache_walks.specs.{declared.walk.Walk.{Walk as Walked}, WalkStates.{WalksAt, walk_of}}
 use Rattle.cacache_laws.specs.trees.Compacting.{Line, decision, is_odd, lines_of}
 use Rattle.cacache_laws.proofs.trees.Compactions.{CompactAnswers.{found_as, latest_is, ours, undecided}, CompactLines.{ArePieces, pieces_are, texts}, CompactTwice.{after, in_bytes}}
-use Rattle.cacache_keep.specs.{Checking.{bucket_read, has_odd}, Linked.{taken_as}, Walking.{IsTold, entry_at}}
+use Rattle.cacache_keep.specs.{Checking.{bucket_read, has_odd}, Walking.{IsTold, entry_at}}
 
 -- ---- places without an entry
 
@@ -111,8 +111,8 @@ listed_none w u next todo p bytes none not_done h =
     give_none (length w.items.items) u next (walk_of [] w) (items_in bytes) (walk_on todo) before (walk_none (length w.items.items) u next todo) not_done h
 
 -- an entry at the place of the next item is the bucket's
-pub told : (w u : Walked) (next : Option Visit) (todo : List Task) (v : Visit) (t : PlainAnswer) (lists : Bool) → (after_visit (walk_of [] w) v todo (taken_as (visit_step v) t) ≡ over Done → ⊥)
-    → WalksAt [] u next (after_visit (walk_of [] w) v todo (taken_as (visit_step v) t)) → lists ≡ entry_at (map plain_item u.items.items) (length w.items.items) → IsTold lists (bucket_read (visit_step v) t)
+pub told : (w u : Walked) (next : Option Visit) (todo : List Task) (v : Visit) (t : PlainAnswer) (lists : Bool) → (after_visit (walk_of [] w) v todo t ≡ over Done → ⊥)
+    → WalksAt [] u next (after_visit (walk_of [] w) v todo t) → lists ≡ entry_at (map plain_item u.items.items) (length w.items.items) → IsTold lists (bucket_read (visit_step v) t)
 told w u next todo (ReadBucket p) (answers.Bytes bytes) lists not_done h is = λ yes none. let no = listed_none w u next todo p bytes none not_done h in cc
 told w u next todo v t lists not_done h is = tt
 

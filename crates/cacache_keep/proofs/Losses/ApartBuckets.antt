@@ -10,8 +10,8 @@ use Rattle.cacache_calls.specs.{Runs.{Moves}, SingleSteps.{Does, FailsAt}, StepP
 use Rattle.cacache_value.{specs.Kinds.{PathKind, Temporary, path_kind}, proofs.KindsApart.{kind-below}}
 use Rattle.cacache_laws.{specs.{Sequence.{AreAnswered}, trees.Compacting.{compact_text}}, proofs.Calls.InParts.{writing_keeps}}
 use Rattle.cacache_loss.{specs.{Fixing.{is_at}, Moments.{Moment}}, proofs.UnchangedPaths.{at_false}}
-use Rattle.cacache_keep.specs.{Compacting.{Bucket, CompactsBucket, RewritesIf, StopsBucket, StopsUnchanged, is_loose}, Rewriting.{MakesTemp, Rewrites, StopsMaking, StopsMoving, StopsRewriting, StopsSyncingBucket, StopsWriting, SyncsBucket, Takes, TakesNone, Took, folder_of}}
-use Rattle.cacache_keep.proofs.{Losses.ApartSteps.{Apart, EachApart, apart_join, Fixes, fixes_failed, fixes_step, fixes_then}, NewBuckets.Rewritten.{Has, temp_made, temp_path_named, wrote_has, writes_take}}
+use Rattle.cacache_keep.specs.{Compacting.{Bucket, CompactsBucket, RewritesIf, StopsBucket, StopsUnchanged, is_loose}, Rewriting.{MakesTemp, Rewrites, StopsMaking, StopsMoving, StopsRewriting, StopsSecuring, StopsSyncing, StopsSyncingBucket, StopsWriting, SyncsBucket, SyncsFolder, SyncsTemp, Takes, TakesNone, Took, folder_of, syncs_first}}
+use Rattle.cacache_keep.proofs.{Losses.ApartSteps.{Apart, EachApart, apart_join, Fixes, fixes_failed, fixes_none, fixes_step, fixes_then}, NewBuckets.Rewritten.{Has, temp_made, temp_path_named, wrote_has, writes_take}}
 
 module _ (cache : List ℕ) (home : Names) (is : home_of cache ≡ Some home) (q : Names) (k : PathKind) (kind : path_kind (Some home) q ≡ k) (other : k ≡ Temporary → ⊥) where
   -- the text leads elsewhere
@@ -82,35 +82,41 @@ module _ (cache : List ℕ) (home : Names) (is : home_of cache ≡ Some home) (q
   abbrev pub IfSpared : PlainTemp → Moment → Moves → Type 0
   IfSpared file w moves = Spares file.path → EachApart q moves
 
-  pub temp_sync_apart : (full : PlainTemp) (old new : Option (List LogItem)) → Does (steps.SyncTemp full) (answers.Synced full) old new → Fixes (IfSpared full) old new
-  temp_sync_apart full old new does = fixes_step (IfSpared full) (steps.SyncTemp full) (answers.Synced full) old new does (λ w rooted e temp. (temp, tt))
+  pub temp_sync_apart : (syncs : Bool) (full : PlainTemp) (old new : Option (List LogItem)) → SyncsTemp syncs full old new → Fixes (IfSpared full) old new
+  temp_sync_apart true full old new does = fixes_step (IfSpared full) (steps.SyncTemp full) (answers.Synced full) old new does (λ w rooted e temp. (temp, tt))
+  temp_sync_apart false full old new same = fixes_none (IfSpared full) old new same (λ w temp. tt)
 
   -- ---- one bucket
 
-  rewrite_apart : (path bytes : List ℕ) (old new : Option (List LogItem)) → Spares path → Rewrites true cache path bytes old new → Fixes AllApart old new
-  rewrite_apart path bytes old new spares r =
+  pub folder_sync_apart : (durable : Bool) (path : List ℕ) (old new : Option (List LogItem)) → SyncsFolder durable path old new → Fixes AllApart old new
+  folder_sync_apart true path old new does = fixes_step AllApart (steps.SyncDir (folder_of path)) answers.Done old new does (λ w rooted e. (tt, tt))
+  folder_sync_apart false path old new same = fixes_none AllApart old new same (λ w. tt)
+
+  rewrite_apart : (durable : Bool) (path bytes : List ℕ) (old new : Option (List LogItem)) → Spares path → Rewrites durable cache path bytes old new → Fixes AllApart old new
+  rewrite_apart durable path bytes old new spares r =
       fixes_then (Full r.full bytes) (λ w moves. Spares r.full.path → EachApart q moves) AllApart old r.written new (full_apart r.file r.full bytes old r.made r.written r.making r.writing)
-      (fixes_then (IfSpared r.full) (IfSpared r.full) (IfSpared r.full) r.written r.synced new (temp_sync_apart r.full r.written r.synced r.syncing)
+      (fixes_then (IfSpared r.full) (IfSpared r.full) (IfSpared r.full) r.written r.synced new (temp_sync_apart (syncs_first durable bytes) r.full r.written r.synced r.syncing)
       (fixes_then (λ w moves. Spares r.full.path → EachApart q moves) AllApart (λ w moves. Spares r.full.path → EachApart q moves) r.synced r.moved new
       (fixes_step (λ w moves. Spares r.full.path → EachApart q moves) (steps.Persist r.full path) answers.Done r.synced r.moved r.moving (λ w rooted e temp. ((temp, spares), tt)))
-      (fixes_step AllApart (steps.SyncDir (folder_of path)) answers.Done r.moved new r.securing (λ w rooted e. (tt, tt)))
+      (folder_sync_apart durable path r.moved new r.securing)
       (λ w one two rooted a b temp. apart_join q one two (a temp) b))
       (λ w one two rooted a b temp. apart_join q one two (a temp) (b temp)))
       (λ w one two rooted a b. apart_join q one two a.0 (b a.1))
 
-  pub sync_apart : (path : List ℕ) (old new : Option (List LogItem)) → SyncsBucket true path old new → Fixes AllApart old new
-  sync_apart path old new (synced, file, folder) =
+  pub sync_apart : (durable : Bool) (path : List ℕ) (old new : Option (List LogItem)) → SyncsBucket durable path old new → Fixes AllApart old new
+  sync_apart true path old new (synced, file, folder) =
       fixes_then AllApart AllApart AllApart old synced new (fixes_step AllApart (steps.SyncFile path) answers.Done old synced file (λ w rooted e. (tt, tt)))
-      (fixes_step AllApart (steps.SyncDir (folder_of path)) answers.Done synced new folder (λ w rooted e. (tt, tt))) (λ w one two rooted a b. apart_join q one two a b)
+      (folder_sync_apart true path synced new folder) (λ w one two rooted a b. apart_join q one two a b)
+  sync_apart false path old new same = fixes_none AllApart old new same (λ w. tt)
 
-  settle_apart : (loose : Bool) (b : Bucket) (old new : Option (List LogItem)) → Spares b.0 → RewritesIf loose true cache b old new → Fixes AllApart old new
-  settle_apart true b old new spares r = rewrite_apart b.0 (compact_text true b.1) old new spares r
-  settle_apart false b old new spares r = sync_apart b.0 old new r
+  settle_apart : (loose durable : Bool) (b : Bucket) (old new : Option (List LogItem)) → Spares b.0 → RewritesIf loose durable cache b old new → Fixes AllApart old new
+  settle_apart true durable b old new spares r = rewrite_apart durable b.0 (compact_text durable b.1) old new spares r
+  settle_apart false durable b old new spares r = sync_apart durable b.0 old new r
 
-  pub bucket_apart : (b : Bucket) (old new : Option (List LogItem)) → Spares b.0 → CompactsBucket true cache b old new → Fixes AllApart old new
-  bucket_apart b old new spares (read, does, rest) =
+  pub bucket_apart : (durable : Bool) (b : Bucket) (old new : Option (List LogItem)) → Spares b.0 → CompactsBucket durable cache b old new → Fixes AllApart old new
+  bucket_apart durable b old new spares (read, does, rest) =
       fixes_then AllApart AllApart AllApart old read new (fixes_step AllApart (steps.ReadAll b.0) (answers.Bytes b.1) old read does (λ w rooted e. (tt, tt)))
-      (settle_apart (is_loose true b) b read new spares rest) (λ w one two rooted a b. apart_join q one two a b)
+      (settle_apart (is_loose durable b) durable b read new spares rest) (λ w one two rooted a b. apart_join q one two a b)
 
   -- ---- an error ends that
 
@@ -145,49 +151,53 @@ module _ (cache : List ℕ) (home : Names) (is : home_of cache ≡ Some home) (q
       (λ w one two rooted a b. apart_join q one two a.0 (b a.1 a.2))
 
   -- before the move
-  pub early_stops : (file full : PlainTemp) (bytes : List ℕ) (e : Error) (old made written new : Option (List LogItem)) → MakesTemp cache file old made → Took file bytes full [] made written → FailsAt (steps.SyncTemp full) e written new → Fixes AllApart old new
-  early_stops file full bytes e old made written new making took fails =
+  pub early_stops : (syncs : Bool) (file full : PlainTemp) (bytes : List ℕ) (e : Error) (old made written new : Option (List LogItem)) → MakesTemp cache file old made → Took file bytes full [] made written → StopsSyncing syncs full e written new → Fixes AllApart old new
+  early_stops false file full bytes e old made written new making took fails = absurd fails
+  early_stops true file full bytes e old made written new making took fails =
       fixes_then (Full full bytes) (IfSpared full) AllApart old written new (full_apart file full bytes old made written making took)
       (fixes_failed (IfSpared full) (steps.SyncTemp full) e written new fails (λ w temp. tt) (λ w fault rooted is temp. (temp, tt)))
       (λ w one two rooted a b. apart_join q one two a.0 (b a.1))
 
-  pub sync_stops : (path : List ℕ) (e : Error) (old new : Option (List LogItem)) → StopsSyncingBucket true path e old new → Fixes AllApart old new
-  sync_stops path e old new (inl fails) = failed_apart (steps.SyncFile path) e old new tt fails
-  sync_stops path e old new (inr (synced, file, fails)) =
+  pub unsecured_stops : (durable : Bool) (path : List ℕ) (e : Error) (old new : Option (List LogItem)) → StopsSecuring durable path e old new → Fixes AllApart old new
+  unsecured_stops true path e old new fails = failed_apart (steps.SyncDir (folder_of path)) e old new tt fails
+  unsecured_stops false path e old new fails = absurd fails
+
+  pub sync_stops : (durable : Bool) (path : List ℕ) (e : Error) (old new : Option (List LogItem)) → StopsSyncingBucket durable path e old new → Fixes AllApart old new
+  sync_stops true path e old new (inl fails) = failed_apart (steps.SyncFile path) e old new tt fails
+  sync_stops true path e old new (inr (synced, file, fails)) =
       fixes_then AllApart AllApart AllApart old synced new (fixes_step AllApart (steps.SyncFile path) answers.Done old synced file (λ w rooted is. (tt, tt)))
-      (failed_apart (steps.SyncDir (folder_of path)) e synced new tt fails) (λ w one two rooted a b. apart_join q one two a b)
+      (unsecured_stops true path e synced new fails) (λ w one two rooted a b. apart_join q one two a b)
+  sync_stops false path e old new fails = absurd fails
 
   pub unread_stops : (path : List ℕ) (e : Error) (old new : Option (List LogItem)) → FailsAt (steps.ReadAll path) e old new → Fixes AllApart old new
   unread_stops path e old new fails = failed_apart (steps.ReadAll path) e old new tt fails
 
-  pub unsecured_stops : (path : List ℕ) (e : Error) (old new : Option (List LogItem)) → FailsAt (steps.SyncDir path) e old new → Fixes AllApart old new
-  unsecured_stops path e old new fails = failed_apart (steps.SyncDir path) e old new tt fails
-
   -- at it or after it, if the path is another one
-  moving_stops : (file full : PlainTemp) (path bytes : List ℕ) (e : Error) (old made written new : Option (List LogItem)) → Spares path → MakesTemp cache file old made → Took file bytes full [] made written → StopsMoving true full path e written new → Fixes AllApart old new
-  moving_stops file full path bytes e old made written new spares making took (inl fails) = early_stops file full bytes e old made written new making took fails
-  moving_stops file full path bytes e old made written new spares making took (inr (synced, syncs, rest)) =
+  moving_stops : (durable : Bool) (file full : PlainTemp) (path bytes : List ℕ) (e : Error) (old made written new : Option (List LogItem)) → Spares path → MakesTemp cache file old made → Took file bytes full [] made written → StopsMoving durable full path bytes e written new
+      → Fixes AllApart old new
+  moving_stops durable file full path bytes e old made written new spares making took (inl fails) = early_stops (syncs_first durable bytes) file full bytes e old made written new making took fails
+  moving_stops durable file full path bytes e old made written new spares making took (inr (synced, syncs, rest)) =
       fixes_then (Full full bytes) (IfSpared full) AllApart old written new (full_apart file full bytes old made written making took)
-      (fixes_then (IfSpared full) (IfSpared full) (IfSpared full) written synced new (temp_sync_apart full written synced syncs) (by rest)
+      (fixes_then (IfSpared full) (IfSpared full) (IfSpared full) written synced new (temp_sync_apart (syncs_first durable bytes) full written synced syncs) (by rest)
       (λ w one two rooted a b temp. apart_join q one two (a temp) (b temp)))
       (λ w one two rooted a b. apart_join q one two a.0 (b a.1))
     where
-      by : FailsAt (steps.Persist full path) e synced new ⊎ ((moved : Option (List LogItem)) × Does (steps.Persist full path) answers.Done synced moved × FailsAt (steps.SyncDir (folder_of path)) e moved new) → Fixes (IfSpared full) synced new
+      by : FailsAt (steps.Persist full path) e synced new ⊎ ((moved : Option (List LogItem)) × Does (steps.Persist full path) answers.Done synced moved × StopsSecuring durable path e moved new) → Fixes (IfSpared full) synced new
       by (inl fails) = fixes_failed (IfSpared full) (steps.Persist full path) e synced new fails (λ w temp. tt) (λ w fault rooted is temp. ((temp, spares), tt))
       by (inr (late, moves, fails)) =
           fixes_then (IfSpared full) AllApart (IfSpared full) synced late new (fixes_step (IfSpared full) (steps.Persist full path) answers.Done synced late moves (λ w rooted is temp. ((temp, spares), tt)))
-          (unsecured_stops (folder_of path) e late new fails) (λ w one two rooted a b temp. apart_join q one two (a temp) b)
+          (unsecured_stops durable path e late new fails) (λ w one two rooted a b temp. apart_join q one two (a temp) b)
 
-  pub rewriting_stops : (path bytes : List ℕ) (e : Error) (old new : Option (List LogItem)) → Spares path → StopsRewriting true cache path bytes e old new → Fixes AllApart old new
-  rewriting_stops path bytes e old new spares (inl making) = making_stops e old new making
-  rewriting_stops path bytes e old new spares (inr (file, made, making, inl writing)) = writing_stops file bytes e old made new making writing
-  rewriting_stops path bytes e old new spares (inr (file, made, making, inr (full, written, took, moving))) = moving_stops file full path bytes e old made written new spares making took moving
+  pub rewriting_stops : (durable : Bool) (path bytes : List ℕ) (e : Error) (old new : Option (List LogItem)) → Spares path → StopsRewriting durable cache path bytes e old new → Fixes AllApart old new
+  rewriting_stops durable path bytes e old new spares (inl making) = making_stops e old new making
+  rewriting_stops durable path bytes e old new spares (inr (file, made, making, inl writing)) = writing_stops file bytes e old made new making writing
+  rewriting_stops durable path bytes e old new spares (inr (file, made, making, inr (full, written, took, moving))) = moving_stops durable file full path bytes e old made written new spares making took moving
 
-  pub bucket_stops : (path : List ℕ) (e : Error) (old new : Option (List LogItem)) → Spares path → StopsBucket true cache path e old new → Fixes AllApart old new
-  bucket_stops path e old new spares (inl fails) = unread_stops path e old new fails
-  bucket_stops path e old new spares (inr (bytes, read, does, rest)) =
+  pub bucket_stops : (durable : Bool) (path : List ℕ) (e : Error) (old new : Option (List LogItem)) → Spares path → StopsBucket durable cache path e old new → Fixes AllApart old new
+  bucket_stops durable path e old new spares (inl fails) = unread_stops path e old new fails
+  bucket_stops durable path e old new spares (inr (bytes, read, does, rest)) =
       fixes_then AllApart AllApart AllApart old read new (fixes_step AllApart (steps.ReadAll path) (answers.Bytes bytes) old read does (λ w rooted is. (tt, tt))) (by rest) (λ w one two rooted a b. apart_join q one two a b)
     where
-      by : StopsRewriting true cache path (compact_text true bytes) e read new ⊎ StopsUnchanged true (path, bytes) e read new → Fixes AllApart read new
-      by (inl stop) = rewriting_stops path (compact_text true bytes) e read new spares stop
-      by (inr (same, stop)) = sync_stops path e read new stop
+      by : StopsRewriting durable cache path (compact_text durable bytes) e read new ⊎ StopsUnchanged durable (path, bytes) e read new → Fixes AllApart read new
+      by (inl stop) = rewriting_stops durable path (compact_text durable bytes) e read new spares stop
+      by (inr (same, stop)) = sync_stops durable path e read new stop

@@ -107,21 +107,22 @@ module _ (cache : List ℕ) (home : Names) (is : home_of cache ≡ Some home) (a
 -- ---- after a loss
 
 -- a bucket's bytes are left as they were, or compacted
-abbrev pub IsEither : List ℕ → Option Node → Type 0
-IsEither bytes here = (here ≡ Some (File bytes)) ⊎ (here ≡ Some (File (compact_text true bytes)))
+abbrev pub IsEither : Bool → List ℕ → Option Node → Type 0
+IsEither durable bytes here = (here ≡ Some (File bytes)) ⊎ (here ≡ Some (File (compact_text durable bytes)))
 
 -- a lookup finds then what it finds in a bucket's bytes
-pub keys_keep : (home : Names) (t left : Tree) (key : List ℕ) (found : Found) (here : Option Node) → look t (home ++ bucket_names_of (sha1 key)) ≡ here
-    → ((bytes : List ℕ) → look t (home ++ bucket_names_of (sha1 key)) ≡ Some (File bytes) → IsEither bytes (look left (home ++ bucket_names_of (sha1 key))))
+pub key_keeps : (durable : Bool) (home : Names) (left : Tree) (key : List ℕ) (found : Found) (bytes : List ℕ) → IsEither durable bytes (look left (home ++ bucket_names_of (sha1 key)))
+    → latest key (list_of (bucket_in (Some (File bytes)))) ≡ Some found → found_in home left key ≡ Some found
+key_keeps durable home left key found bytes (inl same) finds = ap (λ o. latest key (list_of (bucket_in o))) same ∙ finds
+key_keeps durable home left key found bytes (inr compacted) finds = ap (λ o. latest key (list_of (bucket_in o))) compacted ∙ (compact_texts_answer durable bytes).finds key ∙ finds
+
+keys_keep : (home : Names) (t left : Tree) (key : List ℕ) (found : Found) (here : Option Node) → look t (home ++ bucket_names_of (sha1 key)) ≡ here
+    → ((bytes : List ℕ) → look t (home ++ bucket_names_of (sha1 key)) ≡ Some (File bytes) → IsEither true bytes (look left (home ++ bucket_names_of (sha1 key))))
     → latest key (list_of (bucket_in here)) ≡ Some found → found_in home left key ≡ Some found
 keys_keep home t left key found None is lean finds = absurd cc
 keys_keep home t left key found (Some Folder) is lean finds = absurd cc
 keys_keep home t left key found (Some (Link target)) is lean finds = absurd cc
-keys_keep home t left key found (Some (File bytes)) is lean finds = by (lean bytes is)
-  where
-    by : IsEither bytes (look left (home ++ bucket_names_of (sha1 key))) → found_in home left key ≡ Some found
-    by (inl same) = ap (λ o. latest key (list_of (bucket_in o))) same ∙ finds
-    by (inr compacted) = ap (λ o. latest key (list_of (bucket_in o))) compacted ∙ (compact_texts_answer true bytes).finds key ∙ finds
+keys_keep home t left key found (Some (File bytes)) is lean finds = key_keeps true home left key found bytes (lean bytes is) finds
 
 module _ (cache : List ℕ) (home : Names) (count bytes : ℕ) (moves : Moves) (fixed : Fixed) (old new : List LogItem)
     (is : home_of cache ≡ Some home) (logged : IsLog new) (c : CompactsCache true cache count bytes (Some old) (Some new)) (gains : Gains (Some old) (Some new) moves) where

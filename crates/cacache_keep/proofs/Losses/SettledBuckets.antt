@@ -143,7 +143,7 @@ module _ (cache : List ℕ) (home : Names) (is : home_of cache ≡ Some home) (d
       fixes_as Settles (SettlesThese (b.0 ∷ [])) old new (bucket_settles b old new named (folder d n named) c)
       (λ w moves rooted s. ((λ h. let t = s h in (t.0.0, t.0.1), λ h. s (h.0.0, h.0.1)), λ path m e h. s h))
   one_settles b old new folder c false here =
-      fixes_as (AllApart cache home is q IsBucket kind (λ e. cc)) (SettlesThese (b.0 ∷ [])) old new (bucket_apart cache home is q IsBucket kind (λ e. cc) b old new here c)
+      fixes_as (AllApart cache home is q IsBucket kind (λ e. cc)) (SettlesThese (b.0 ∷ [])) old new (bucket_apart cache home is q IsBucket kind (λ e. cc) true b old new here c)
       (λ w moves rooted a. (apart_held q w moves a, λ path m e h. absurd (elsewhere path m e)))
     where
       elsewhere : (path : List ℕ) → Member path (b.0 ∷ []) → names_of path ≡ Ok q → ⊥

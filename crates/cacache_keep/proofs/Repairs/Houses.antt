@@ -10,7 +10,7 @@ use Rattle.cacache_value.proofs.KindsApart.{kind-below}
 use Rattle.cacache_laws.specs.trees.{Contents.{content_in}, Housed.{Beside, Housed, Still}, Temporary.{IsTemporary, LeavesUntemporary}}
 use Rattle.cacache_laws.proofs.trees.{Led.{found_integrity}, Spared.StillThere.{good_still}}
 use Rattle.cacache_keep.specs.{Houses.{RepairsHouse, SweepsHouse, SweepsKeepGood}, Kept.{LeadsToGood}}
-use Rattle.cacache_keep.proofs.{Indexes.LinkedFolders.{repaired_on}, Collections.Behind.{caches_are_swept}, Repairs.Whole.{first_hash, rehoused}}
+use Rattle.cacache_keep.proofs.{Collections.Behind.{caches_are_swept}, Repairs.{AfterListing.{repaired_on}, Whole.{first_hash, rehoused}}}
 
 -- ---- places
 

@@ -13,9 +13,9 @@ use Rattle.cacache_calls.specs.declared.reply.Reply.TheVariants as replies
 use Rattle.cacache_calls.specs.{Answers.{there_in}, Replies.{there_reply}, Runs.{Moves, Gains}, State.{Site, Item}, StepPaths.{content_path}, Table.{piece}}
 use Rattle.cacache_calls.proofs.Replies.{exists_shown}
 use Rattle.cacache_laws.specs.{Sequence.{AreAnswered, tree_on}, trees.{Contents.{IsHeld, content_in}, Answers.{AnsweredBy, AnswersOn}, Index.{IndexLists, entries_in, is_failure}, Verifying.{is_good, is_met, says_yes, has_content}}}
-use Rattle.cacache_laws.proofs.{trees.{Logged.{answered_rest, answered_split, gains_join, tree_rest}, Members.{Member, member_contains}, Verified.{content_file}}, Readings.ReadAnswers.{opening_keeps, piece_keeps}}
+use Rattle.cacache_laws.proofs.{trees.{Logged.{answered_rest, answered_split, gains_join, looked, tree_rest}, Members.{Member, member_contains}, Verified.{content_file}}, Readings.ReadAnswers.{opening_keeps, piece_keeps}}
 use Rattle.cacache_value.specs.Shows.{blob_bytes}
-use Rattle.cacache_keep.{specs.{Calls.{AreEntries, question_of}, Reading.{Judged, Pieces, SaysGood, SaysOfEach}}, proofs.Stopped.{EachOn, gains_none}}
+use Rattle.cacache_keep.{specs.{Calls.{AreEntries, ListsEntries, question_of}, Reading.{Judged, Pieces, SaysGood, SaysOfEach}}, proofs.Stopped.{EachOn, gains_none}}
 
 -- ---- reads of an open file
 
@@ -238,17 +238,15 @@ clean_one item given e (inl same) = ap is_failure same ∙ e
 clean_one item given e (inr m) = absurd m
 
 -- its items have no error but that its folder is missing
-pub index_clean : (items : List Item) (entries : List Found) → AreEntries items entries → (item : Item) → Member item items → is_failure item ≡ false
+index_clean : (items : List Item) (entries : List Found) → AreEntries items entries → (item : Item) → Member item items → is_failure item ≡ false
 index_clean items entries (inl e) item m = clean_ok entries item (subst (Member item) e m)
 index_clean items entries (inr e) item m = clean_one item (Err (errors.IoError NotFound e.0.0)) refl (subst (Member item) e.0.1 m)
 
-pub index_lists : (site : Site) (t : Tree) (items : List Item) (entries : List Found) → AreEntries items entries → AnswersOn site t commands.Ls (replies.Listed items) → IndexLists site t entries
-index_lists site t items entries are on = record {
-  items = items;
-  answers = on;
-  clean = λ item c. index_clean items entries are item (member_contains item items c);
-  those = entries_told items entries are;
-}
+-- a listing of the index that this tree answers lists it, and leaves the tree
+pub index_looked : (site : Site) (t : Tree) (entries : List Found) (old new : Option (List LogItem)) (l : ListsEntries site entries old new) → AreAnswered t l.2.0 → IndexLists site t entries × (tree_on t l.2.0 ≡ t)
+index_looked site t entries old new (items, are, (moves, run, gains)) answered =
+    let index = looked site t commands.Ls (replies.Listed items) moves tt run answered in
+    (record { items = items; answers = index.0; clean = λ item c. index_clean items entries are item (member_contains item items c); those = entries_told items entries are }, index.1)
   where
     entries_told : (items : List Item) (entries : List Found) → AreEntries items entries → entries ≡ entries_in items
     entries_told items entries (inl e) = entries_back entries ∙ ap entries_in (sym e)

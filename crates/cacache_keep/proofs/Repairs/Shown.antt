@@ -14,7 +14,7 @@ use Rattle.cacache_laws.specs.{Sequence.{tree_on, AreAnswered}, trees.{Contents.
 use Rattle.cacache_laws.proofs.{trees.{Logged.{walked, answered_rest, answered_split, gains_join, log_rooted, tree_rest}, Members.{contains_member}, Indexed.{holds_just}}, Calls.InParts.{logs_lead}}
 use Rattle.cacache_walks.specs.{Listing.{IsByHash, content_area_in, hash_cmp}, Reading.{top_folder}}
 use Rattle.cacache_keep.specs.{Missing.{Look}, Repairing.{BuriesAll, BuriesEach, RepairsFrom}, Calls.{question_of}, Keeping.{VerifiesCache}, Kept.{LeavesTree, ListsHold, VerdictsJudge}, Reading.{Judged, FindsNone, Gave, GaveAll, Opens, Pieces, StopsContent, StopsGiving, finds_none, is_gone}}
-use Rattle.cacache_keep.proofs.{Stopped.{gains_none, AllLook, made_looks}, Collections.Searching.{hash_total}, Repairs.{Tombs.{none_buried}, Judged.{asks_told, good_counted, others_named, reads_judged}}, Indexes.StandingIndexes.{index_looked}}
+use Rattle.cacache_keep.proofs.{Stopped.{gains_none, AllLook, made_looks}, Collections.Searching.{hash_total}, Repairs.{Tombs.{none_buried}, Judged.{asks_told, good_counted, index_looked, others_named, reads_judged}}}
 use Rattle.cacache_sync.proofs.content.StepAnswers.{refused_fails, read_refused, file_refused}
 use Rattle.cacache_store.specs.declared.store.answer.Answer.TheVariants as answers
 use Rattle.cacache_store.specs.declared.store.step.Step.TheVariants as steps
@@ -125,7 +125,7 @@ module _ (site : Site) (home : Names) (good : ℕ) (damaged : List (List Hash)) 
       (λ h m. let k = contains_member h hashes m in (holds.formed h k, (holds.held h (holds.formed h k)).0 k))
       (answered_split t r.moves (l.0 ++ a.keeps.moves) after_walk).0 in
       let after_reads = answered_rest t r.moves (l.0 ++ a.keeps.moves) reads.1 after_walk in
-      let index = index_looked site home t v.listing.0 v.listing.1 v.entries l.0 is (log_rooted old) l.1 (answered_split t l.0 a.keeps.moves after_reads).0 in
+      let index = index_looked site t v.entries v.read v.listed v.listing (answered_split t l.0 a.keeps.moves after_reads).0 in
       let asks = a.tells t (answered_rest t l.0 a.keeps.moves index.1 after_reads) in (
         record {
           hashes = hashes;

@@ -14,7 +14,7 @@ use Rattle.cacache_laws.specs.{Sequence.{tree_on}, trees.{Collecting.{Removes}, 
 use Rattle.cacache_laws.proofs.{Calls.InParts.{logs_lead}, trees.{Collected.{from_kept, kept_in, leaves, repairs_leave, dropped_hash, picked_left}, Indexed.{holds_just}, Logged.{answered_rest, answered_split, gains_join, log_rooted, tree_rest, tree_split, walked}, Members.{Member, contains_member, member_contains}, HiddenKeys.{removes_house, removes_root, removes_still}, Led.{found_integrity, found_listed, indexes_lead}, Spared.StillThere.{good_still, good_there, has_still}}}
 use Rattle.cacache_walks.specs.{Listing.{content_area_in}, Reading.{top_folder}}
 use Rattle.cacache_keep.specs.{Calls.{MadeCalls, question_of, removal}, Kept.{IsKeyOf, MendsCache, RepairsMend, LeadsToGood, RepairsKeepGood, RepairsVerify}, Reading.{Judged}, Repairing.{Fate, RepairsFrom, is_buried}}
-use Rattle.cacache_keep.proofs.{Indexes.{LinkedFolders.{repaired_on}, FoundBuckets.{in_map}}, Repairs.{Buried.{After, all_told, Whole}, Judged.{asks_told, others_named, reads_judged}, Shown.{burial_of, all_questions, verdicts_judge}}, Collections.Leaving.{removals, removals_gain, removed_by}, Stopped.{made_looks}, Asked.{none_kept}}
+use Rattle.cacache_keep.proofs.{Indexes.FoundBuckets.{in_map}, Repairs.{AfterListing.{repaired_on}, Buried.{After, all_told, Whole}, Judged.{asks_told, others_named, reads_judged}, Shown.{burial_of, all_questions, verdicts_judge}}, Collections.Leaving.{removals, removals_gain, removed_by}, Stopped.{made_looks}, Asked.{none_kept}}
 
 pub map_from : {X Y : Type 0} (f : X → Y) (y : Y) (xs : List X) → Member y (map f xs) → (x : X) × Member x xs × (f x ≡ y)
 map_from f y [] m = absurd m

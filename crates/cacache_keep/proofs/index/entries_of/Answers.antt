@@ -1,6 +1,7 @@
-use Rattle.std.proofs.{Common.{◌≡◌, ◌∙◌, Err, Ok, get_or, length, map, rules, sym, subst}, lemmas.{List.{map-id}, Iterator.{Adapters.{YieldsList-from_vec}, Consumers.{YieldsList-so_far, YieldsList-turn}}}}
+use Rattle.std.proofs.{Common.{◌≡◌, ◌⊎◌, ◌∙◌, Err, inr, Ok, get_or, length, map, rules, sym, subst}, lemmas.{List.{map-id}, Iterator.{Adapters.{YieldsList-from_vec}, Consumers.{YieldsList-so_far, YieldsList-turn}}}}
+use Rattle.cacache_core.specs.declared.errors.Error.TheVariants.{OutOfMemory}
 use Rattle.cacache_calls.specs.State.{Item}
-use Rattle.cacache_keep.{specs.Calls.{IsFirstError}, proofs.Stopped.{first_error}}
+use Rattle.cacache_keep.{specs.Calls.{HasNoIndex, IsFirstError, IsIndexError}, proofs.Stopped.{error_as, first_error}}
 use Rattle.cacache_keep.proofs.index.entries_of.Goals as goal
 
 -- the items before the error are entries
@@ -15,4 +16,5 @@ returns-in_err-item-clause-err c =
     let before : map Ok c.loop-item.entries.items ≡ _ = sym c.loop-item.invariant ∙ sym (map-id c.loop-item.yielded) ∙ so_far in
     let at = subst (λ (x : Item). x ≡ get_or items (length c.loop-item.yielded) x) is turn.1 in
     let first : IsFirstError items e = first_error items c.loop-item.entries.items e (length c.loop-item.yielded) turn.0 before at in
-    search (rules, first)
+    let apart : HasNoIndex items → ⊥ = λ missing. c.has_no_index.ensures.no c.if-has_no_index.false (subst HasNoIndex (sym c.as_slice.ensures.value) missing) in
+    error_as (λ x. (x ≡ OutOfMemory) ⊎ IsIndexError items x) c.from_residual.result e c.from_residual.ensures.1 (inr (first, apart))

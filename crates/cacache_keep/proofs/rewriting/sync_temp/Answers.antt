@@ -9,6 +9,6 @@ returns-in-Err-clause-stops g c =
     let new = g.S.Store.log c.step.new.self in
     let file = g.S.Temp.TempHandle.seen c.args.file in
     let e = c.refused.result in
-    let asked : c.args.durable ≡ true = cc in
+    let asked : c.args.syncs ≡ true = cc in
     subst (λ (d : Bool). StopsSyncing d file e old new) (sym asked)
     (refused_fails (steps.SyncTemp file) _ c.in-Err.refusal e old new (sync_refused file _ c.in-Err.refusal c.in-Err.ensures c.step.ensures.fits) c.step.ensures.logged c.refused.ensures)
