@@ -54,7 +54,7 @@ impl<S: Store> Stamps for Dated<S> {
 }
 
 impl<S: Reasons> Reasons for Dated<S> {
-    ghost known = { λ _. None };
+    ghost known = { λ dated. S.known dated.store };
 
     fn reason(&self) -> Option<ErrorKind> {
         self.store.reason()
