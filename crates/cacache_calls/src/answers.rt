@@ -44,7 +44,7 @@ fn refusal_of<F: FileHandle, T: TempHandle>(answer: Answer<F, T>) -> Refusal
     refusal
 }
 
-/// The same for a borrowed answer.
+/// Why the step was refused that has this answer, which stays the caller's.
 fn refusal_by<F: FileHandle, T: TempHandle>(answer: &Answer<F, T>) -> Refusal
     ensures { result ≡ refusal_in (plain_answer F.seen T.seen answer.now) }
 {

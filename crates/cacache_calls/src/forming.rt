@@ -55,7 +55,7 @@ pub fn form_commit(commit: &Commit)
     }
 }
 
-/// The same for a put.
+/// Shows that the entry of a put is well-formed, if there is one and it can be written.
 pub fn form_put(put: &Put)
     ensures { (site : Site) → FormsCommand site (commands.Put put.now) }
 {
@@ -65,7 +65,8 @@ pub fn form_put(put: &Put)
     }
 }
 
-/// The same for a link, whatever is read from its target.
+/// Shows that the entry of a link is well-formed, if there is one and it can be written, whatever is read from its
+/// target.
 pub fn form_link(link: &Link)
     ensures { (site : Site) → FormsCommand site (commands.Link link.now) }
 {
@@ -74,7 +75,7 @@ pub fn form_link(link: &Link)
     }
 }
 
-/// The same for an insertion.
+/// Shows that the entry of an insertion is well-formed if it can be written.
 pub fn form_insert(insert: &Insert)
     ensures { (site : Site) → FormsCommand site (commands.Insert insert.now) }
 {
@@ -82,7 +83,7 @@ pub fn form_insert(insert: &Insert)
     form(&insert.key, &insert.options);
 }
 
-/// The same for a tombstone.
+/// Shows that a tombstone is well-formed if it can be written.
 pub fn form_delete(delete: &Delete)
     ensures { (site : Site) → FormsCommand site (commands.Delete delete.now) }
 {

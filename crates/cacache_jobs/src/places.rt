@@ -32,7 +32,7 @@ pub fn content_path(alloc: Global, cache: &str, integrity: &Integrity) -> Result
     paths::content_path(alloc, cache, integrity)
 }
 
-/// The same with its folder.
+/// The path of an integrity's content, and its folder.
 #[tactic(auto, unfolding(cacache_calls::specs::StepPaths::content_path, cacache_calls::specs::StepPaths::content_folder))]
 pub(crate) fn content_place(
     alloc: Global,
@@ -69,7 +69,7 @@ pub fn bucket_path(alloc: Global, cache: &str, key: &str) -> Result<Text, AllocE
     paths::bucket_path(alloc, cache, key)
 }
 
-/// The same with its folder.
+/// The path of a key's bucket, and its folder.
 #[tactic(auto, unfolding(cacache_calls::specs::StepPaths::bucket_path, cacache_calls::specs::StepPaths::bucket_folder))]
 pub fn bucket_place(alloc: Global, cache: &str, key: &str) -> Result<Place, AllocError>
     ensures folder { IfOk result (λ place. place.folder ≡ bucket_folder_of cache.now key.now) }

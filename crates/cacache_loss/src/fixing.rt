@@ -25,7 +25,7 @@ pub struct Place {
 }
 
 impl Fixing {
-    /// That of a file that was never synced.
+    /// What is fixed of a file that was never synced.
     pub(crate) fn unsynced() -> Fixing
         ensures { result ≡ unsynced }
     {
@@ -35,7 +35,7 @@ impl Fixing {
         }
     }
 
-    /// That of a file that is synced, if one is here.
+    /// What is fixed of a file that is synced, if one is here.
     pub(crate) fn synced(node: Option<&Node>) -> Fixing
         ensures { result ≡ synced (bytes_of (option_copied node.entry)) }
     {

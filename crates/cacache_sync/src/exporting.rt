@@ -31,7 +31,7 @@ pub(crate) fn form_named(named: Named<'_>)
     }
 }
 
-/// The same as the source of a command.
+/// What is named, as the source of a command.
 fn source_of(alloc: Global, named: Named<'_>) -> std::result::Result<Source, AllocError>
     ensures source { IfOk result (λ source. source ≡ named_source named.entry) }
     ensures formed { IsFormed named.entry }

@@ -39,7 +39,7 @@ impl<R: Files + AllocGlobal + Clone> Clone for Host<R>
 where
     R::File: AsRawFd,
 {
-    /// The same system, which holds nothing open.
+    /// A second one of this system, which holds nothing open.
     fn clone(&self) -> Result<Host<R>, AllocError> {
         Ok(Host::new(self.rt.clone()?))
     }

@@ -16,14 +16,14 @@ pub fn change_laws()
     ensures reflink { ReflinkBreaks }
 {}
 
-/// So does a step that asks for something, or opens a file.
+/// A step that asks for something, or opens a file, answers and leaves what the disk's table says of it.
 pub fn look_laws()
     ensures exists { ExistsAgrees }
     ensures size { SizeAgrees }
     ensures open { OpenAgrees }
 {}
 
-/// So does a listing of a folder that is there, except for the order of the names.
+/// A listing of a folder that is there does what the disk's table says of it, except for the order of the names.
 ///
 /// `in_order`: if the folder gives its names in the tree's order, the answer is that of the table.
 pub fn list_laws()
@@ -32,32 +32,32 @@ pub fn list_laws()
     ensures in_order { ReadDirInOrder }
 {}
 
-/// So does a read: of a whole file, and of a piece of an open one.
+/// A read does what the disk's table says of it: of a whole file, and of a piece of an open one.
 pub fn read_laws()
     ensures whole { ReadAllAgrees }
     ensures piece { ReadBreaks }
     ensures plainly { PiecesReadPlainly }
 {}
 
-/// So do an append and a copy; and a write, except that its file grows in the tree.
+/// An append and a copy do what the disk's table says of them; and a write, except that its file grows in the tree.
 pub fn write_laws()
     ensures append { AppendAgrees }
     ensures write { WriteAgrees }
     ensures copy { CopyAgrees }
 {}
 
-/// So does a step that makes folders, whether it asks for them first or not.
+/// A step that makes folders does what the disk's table says of it, whether it asks for them first or not.
 pub fn folder_laws()
     ensures make { MakeDirsAgrees }
 {}
 
-/// So does a removal.
+/// A removal does what the disk's table says of it.
 pub fn removal_laws()
     ensures file { RemoveFileAgrees }
     ensures folder { RemoveDirAgrees }
 {}
 
-/// So does a sync.
+/// A sync does what the disk's table says of it.
 pub fn sync_laws()
     ensures temp { SyncTempAgrees }
     ensures file { SyncFileAgrees }
@@ -74,7 +74,8 @@ pub fn covered_laws()
     ensures plainly { EachGoesPlainly }
 {}
 
-/// So is a step with a run that a store's log gained, which is what the contract of a store of real folders says.
+/// A step with a run that a store's log gained is as under some luck, too. Such a run is what the contract of a store of real
+/// folders speaks of.
 pub fn logged_laws()
     ensures agree { LogsAgree }
 {}

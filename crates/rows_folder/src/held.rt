@@ -23,7 +23,7 @@ fn taken<T>(held: &mut Option<T>) -> Result<T, Flaw> {
     }
 }
 
-/// The same with what it is given.
+/// What is taken, if it is there, with what it is given.
 fn taken_with<T, G: Drop>(
     held: &mut Option<T>,
     given: Result<G, AllocError>,

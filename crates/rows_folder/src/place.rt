@@ -79,7 +79,7 @@ impl<Y: System + AllocGlobal + Clone + Drop> Stand<Y> {
 pub(crate) enum Place {
     /// On real folders.
     Real(Stand<Host<HostRuntime>>),
-    /// The same, with all calls noted, and with files that behave in ways of their own.
+    /// A real folder with all calls noted, and with files that behave in ways of their own.
     Watched(Stand<Host<Watched>>, Notes),
 }
 

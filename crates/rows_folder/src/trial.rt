@@ -61,7 +61,7 @@ impl Group {
         self.place.came(self.alloc, self.root.path.as_str(), words)
     }
 
-    /// The same on a new store of these ways, which is the group's from now on.
+    /// Does what the words say on a new store of these ways, which is the group's from now on.
     fn came_in(&mut self, words: &str) -> Result<String, Flaw> {
         let (ways, words) = cut(words);
         let ways = ways_of(ways)?;
@@ -69,7 +69,7 @@ impl Group {
         self.came(words)
     }
 
-    /// The same on a store of somebody else.
+    /// Does what the words say on a store of somebody else.
     fn came_else(&mut self, words: &str) -> Result<String, Flaw> {
         let mut place = Place::real(self.root.rt);
         let came = place.came(self.alloc, self.root.path.as_str(), words);
@@ -89,7 +89,7 @@ impl Group {
         }
     }
 
-    /// The same, and the calls that it takes if they are wanted.
+    /// What an act gives, and the calls that it takes if they are wanted.
     fn got_with(&mut self, act: &str, with_calls: bool) -> Result<String, Flaw> {
         self.place.forget(self.alloc);
         let got = self.got(act)?;

@@ -45,7 +45,7 @@ const PLAIN: Ways = Ways {
     paths: false,
 };
 
-/// The same, and the paths are noted.
+/// Plain ways, and the paths are noted.
 const TOLD: Ways = Ways {
     paths: true,
     ..PLAIN
@@ -114,19 +114,19 @@ const CROWDED: Ways = Ways {
 /// Each read and write moves one byte.
 const SHORT: Ways = Ways { most: 1, ..PLAIN };
 
-/// The same, but the first is interrupted.
+/// Each read and write moves one byte, and the first is interrupted.
 const ONCE: Ways = Ways {
     interruptions: 1,
     ..SHORT
 };
 
-/// The same, but the first five are interrupted.
+/// Each read and write moves one byte, and the first five are interrupted.
 const OFTEN: Ways = Ways {
     interruptions: 5,
     ..SHORT
 };
 
-/// The same, but the first sixty-four are interrupted.
+/// Each read and write moves one byte, and the first sixty-four are interrupted.
 const AT_LAST: Ways = Ways {
     interruptions: 64,
     ..SHORT

@@ -70,7 +70,7 @@ fn unlike(
     Ok(Some(String::from_str(alloc, "not both, or the earlier one found")?))
 }
 
-/// The same for two puts that meet so on these sides.
+/// How two puts that meet so on these sides differ from what should come.
 fn met_on(
     alloc: Global,
     sides: &mut Sides,
@@ -84,7 +84,7 @@ fn met_on(
     }
 }
 
-/// The same on sides of their own.
+/// How two puts that meet so on sides of their own differ from what should come.
 fn met(
     alloc: Global,
     first: Content,

@@ -153,7 +153,7 @@ pub(crate) fn put(
     }
 }
 
-/// The same, once the content's folder is there.
+/// The next step of a put once the content's folder is there.
 fn commit(
     alloc: Global,
     value: &mut Value,

@@ -8,7 +8,7 @@ pub(crate) fn failed(alloc: Global, fault: Fault, message: &str) -> Result<Strin
     format!(in alloc; "failed {fault:?}: {message}")
 }
 
-/// The same if the message ends with a path.
+/// A failed step, with the message of its call, which ends with a path.
 pub(crate) fn failed_at(
     alloc: Global,
     fault: Fault,
@@ -18,7 +18,7 @@ pub(crate) fn failed_at(
     format!(in alloc; "failed {fault:?}: {message} {path}")
 }
 
-/// The same if the path is in quotes.
+/// A failed step, with the message of its call, which ends with a path in quotes.
 pub(crate) fn failed_in(
     alloc: Global,
     fault: Fault,

@@ -73,7 +73,7 @@ impl Drop for Value {
 }
 
 impl Value {
-    /// That of a cache which isn't there.
+    /// The value of a cache that isn't there.
     pub(crate) fn new(alloc: Global) -> Value {
         Value {
             alloc,
@@ -175,7 +175,7 @@ impl Value {
         Ok(())
     }
 
-    /// The same if the append fails: nothing at all is done if its luck names no part.
+    /// What a failed append leaves: the part that its luck names, or nothing at all.
     pub(crate) fn tear(&mut self, content: Content, luck: Luck) -> Result<(), AllocError> {
         match luck {
             Luck::Fail(_, Some(count)) => self.append(content, count),

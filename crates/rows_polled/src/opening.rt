@@ -33,7 +33,7 @@ fn all_opts(alloc: Global, integrity: &str) -> Result<WriteOpts, Flaw> {
     )
 }
 
-/// That of a writer with options: `open CACHE KEY SIZE` and `open_hash CACHE SIZE` expect so many bytes, and `with
+/// The opening of a writer with options: `open CACHE KEY SIZE` and `open_hash CACHE SIZE` expect so many bytes, and `with
 /// CACHE KEY INTEGRITY` says all that can be said to a commit.
 fn opening_with<'a, S: Store>(
     env: &'a mut On<S>,
@@ -59,7 +59,7 @@ fn opening_with<'a, S: Store>(
     }
 }
 
-/// That of a writer that is opened in one of the ways: `create CACHE KEY`, `create_with_algo CACHE ALGORITHM KEY`, `new
+/// The opening of a writer in one of the ways: `create CACHE KEY`, `create_with_algo CACHE ALGORITHM KEY`, `new
 /// CACHE ALGORITHM`, or with options.
 fn opening<'a, S: Store>(env: &'a mut On<S>, words: &'a str) -> Result<Opening<'a, S>, Flaw> {
     let (way, words) = cut(words);

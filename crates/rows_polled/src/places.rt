@@ -83,7 +83,7 @@ fn with_luck(alloc: Global, luck: &str) -> Result<On<Faulty>, Flaw> {
     Ok(on(alloc, store, "/")?)
 }
 
-/// The same for a writer with a temporary file that has this luck.
+/// A writer with a temporary file that has this luck.
 fn unlucky<R: Wait + RandomSource + AllocGlobal>(
     rt: &R,
     luck: &str,

@@ -23,7 +23,7 @@ fn add_step<S: Stepped>(line: &mut String, stepped: &mut S, step: &str) -> Resul
     Ok(add(line, answer.as_str())?)
 }
 
-/// The same for all steps, one after another.
+/// Adds what all steps give, one after another.
 fn add_steps<S: Stepped>(line: &mut String, stepped: &mut S, steps: &str) -> Result<(), Flaw> {
     for step in steps.split("; ") {
         add_step(line, stepped, step)?;

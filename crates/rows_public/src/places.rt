@@ -21,7 +21,7 @@ use std::time::Clock;
 pub(crate) struct Places {
     memory: On<MemStore>,
     folders: On<FolderStore<HostRuntime>>,
-    /// The same folders, for somebody else.
+    /// These folders once more, for somebody else.
     beside: On<FolderStore<HostRuntime>>,
     futures: On<MemStore>,
 }

@@ -65,7 +65,7 @@ pub(crate) fn put<S: Store>(env: &mut On<S>, words: &str, input: &str) -> Result
     Ok(replied(alloc, call(env, cache, put_of(alloc, words, input)?, 0))?)
 }
 
-/// The same of a put that is driven as a job.
+/// The line on a put that is driven as a job.
 pub(crate) fn driven<S: Store>(env: &mut On<S>, words: &str, input: &str) -> Result<String, Flaw> {
     let alloc = env.alloc;
     let (cache, words) = cut(words);

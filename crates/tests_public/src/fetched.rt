@@ -16,7 +16,7 @@ fn replaced(env: &mut Memory) -> Result<bool> {
     Ok(cacache::read_sync(env, "c", "k").is_err_and(|error| is_damage(&error)))
 }
 
-/// The same, and what the key has once the bytes were fetched again.
+/// Whether that content was replaced, and what the key has once the bytes were fetched again.
 fn mended(rt: HostRuntime) -> Result<(bool, Vec<u8>)> {
     let alloc = rt.alloc();
     let mut env = memory(rt, "/")?;

@@ -33,7 +33,7 @@ pub(crate) fn put(alloc: Global, key: &str, data: &str) -> Result<Command, Alloc
     }))
 }
 
-/// The same, durably.
+/// A durable put of a text under a key.
 pub(crate) fn durable_put(alloc: Global, key: &str, data: &str) -> Result<Command, AllocError> {
     let mut command = put(alloc, key, data)?;
     if let Command::Put(put) = &mut command {

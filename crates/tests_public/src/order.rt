@@ -151,7 +151,7 @@ fn disk(alloc: Global) -> Result<MemStore, Fail> {
     Ok(store)
 }
 
-/// The same on that disk.
+/// The counts on that disk.
 fn counts(alloc: Global, steps: &Cell<u64>) -> Result<Vec<(u64, u64, u64)>, Fail> {
     let store = Counting {
         store: disk(alloc)?,

@@ -58,7 +58,7 @@ fn five_reads(alloc: Global, reader: &mut Reader<Failing>) -> Result<Reads, Allo
     Ok(reads)
 }
 
-/// The same in words, and whether the bytes meet the integrity.
+/// What five reads gave in words, and whether the bytes meet the integrity.
 fn told(alloc: Global, fails: usize) -> Result<String, Fail> {
     let mut reader = opened(alloc, fails)?;
     let (reads, reader) = beside(five_reads(alloc, &mut reader), reader)?;

@@ -65,7 +65,7 @@ fn read_by_each(alloc: Global, world: &World) -> [bool; 3] {
     [alone, linked, later]
 }
 
-/// The same after a durable put that found a link, and what came of that.
+/// What came of a durable put that found a link, and whether each of the three reads what was put.
 fn read_after_a_put(alloc: Global) -> Result<(String, [bool; 3]), AllocError> {
     let mut world = world_of(alloc, 1)?;
     let came = played(alloc, &mut world, FINDS_A_LINK);

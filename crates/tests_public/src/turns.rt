@@ -177,7 +177,7 @@ fn in_sight(alloc: Global, world: &mut World) -> Result<(String, bool), AllocErr
     Ok((came, holds))
 }
 
-/// The same in a world of its own.
+/// What comes of an entry in sight, in a world of its own.
 fn in_sight_alone(alloc: Global) -> Result<(String, bool), AllocError> {
     let mut world = world_of(alloc, 4)?;
     in_sight(alloc, &mut world)

@@ -85,7 +85,7 @@ fn begun(alloc: Global, world: &mut World, to: &str) -> Result<Result<(), WorldF
     Ok(world.begin(0, export_to(alloc, to)?))
 }
 
-/// The same for the exports to all the targets, one after the other.
+/// Whether a world begins an export to each of the targets, one after the other.
 fn all_begun(alloc: Global, world: &mut World) -> Result<Vec<Result<(), WorldFault>>, AllocError> {
     let mut all = Vec::new(alloc);
     for to in TARGETS {
@@ -95,7 +95,7 @@ fn all_begun(alloc: Global, world: &mut World) -> Result<Vec<Result<(), WorldFau
     Ok(all)
 }
 
-/// The same in a world of one caller.
+/// Whether a world of one caller begins each of these exports.
 fn all_begun_alone(alloc: Global) -> Result<Vec<Result<(), WorldFault>>, AllocError> {
     let mut world = world_of(alloc, 1)?;
     all_begun(alloc, &mut world)

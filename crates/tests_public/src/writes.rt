@@ -51,7 +51,7 @@ fn told(env: &mut On<Faulty>) -> Result<String, AllocError> {
     }
 }
 
-/// The same in an environment of its own.
+/// The answer to a short write in an environment of its own, and what the store keeps then.
 fn told_of_short(alloc: Global) -> Result<String, AllocError> {
     let mut env = short(alloc)?;
     told(&mut env)

@@ -25,7 +25,7 @@ pub(super) fn read_hashes(alloc: Global, text: &[u8]) -> Result<Vec<Hash>>
     Ok(hashes)
 }
 
-/// The same hashes, strongest algorithm first. Those of one algorithm keep their order. A single
+/// These hashes, strongest algorithm first. Those of one algorithm keep their order. A single
 /// hash is returned unchanged.
 #[tactic(auto, using(crate::proofs::Order::one_in_order))]
 pub(super) fn in_order(

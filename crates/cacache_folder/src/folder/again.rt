@@ -60,7 +60,7 @@ pub(crate) fn ask_to_write<Y: System>(
     system.write(file, buf)
 }
 
-/// The same read of an open folder's names.
+/// A read of an open folder's names. If a signal interrupts it, it is made again.
 pub(crate) fn ask_for_names<Y: System>(
     system: &mut Y,
     folder: &mut Y::Folder,

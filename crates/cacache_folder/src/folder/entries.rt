@@ -96,7 +96,7 @@ fn kind_at<Y: System>(system: &mut Y, path: &str) -> Looked<Option<Kind>>
     }
 }
 
-/// The same if the path is text. The runtime is asked by texts alone: what has a name that is no text counts as a
+/// What kind of thing is at the path if it is text. The runtime is asked by texts alone: what has a name that is no text counts as a
 /// file.
 fn kind_if_text<Y: System>(system: &mut Y, path: &[u8]) -> Looked<Option<Kind>>
     ensures { AsksKindIfText path.now result (Y.calls system.old) (Y.calls system.new) }
@@ -107,7 +107,7 @@ fn kind_if_text<Y: System>(system: &mut Y, path: &[u8]) -> Looked<Option<Kind>>
     }
 }
 
-/// The same under a name of a folder; the folder's path ends in a `/`.
+/// What kind of thing a folder has under a name; the folder's path ends in a `/`.
 fn kind_below<Y: System>(system: &mut Y, folder: &mut Vec<u8>, name: &[u8]) -> Looked<Option<Kind>>
     ensures same { folder.new.items ≡ folder.old.items }
     ensures ran { FindsKind folder.old.items name.now result

@@ -68,7 +68,7 @@ fn open<Y: System>(system: &mut Y, path: &str) -> io::Result<Y::File>
     }
 }
 
-/// The same file with a system that can read it.
+/// The file at the path, open for reading, with a system that can read it.
 pub(crate) fn open_with<Y: System + Clone>(system: &mut Y, path: &str) -> io::Result<(Y, Y::File)>
     ensures { RunLogged (calls.taking_memory (calls.opening calls.to_give path.now))
         (said_opened (λ made. Y.number made.1) result) (Y.calls system.old) (Y.calls system.new) }

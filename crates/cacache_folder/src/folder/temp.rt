@@ -57,7 +57,7 @@ impl<Y: System + Drop> SystemTemp<Y> {
         }
     }
 
-    /// The same file after a sync.
+    /// This file after a sync.
     pub(crate) fn synced(self) -> SystemTemp<Y>
         ensures file { result.file ≡ self.file }
         ensures path { result.path ≡ self.path }

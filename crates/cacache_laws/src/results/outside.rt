@@ -22,7 +22,8 @@ pub fn after_copy<C: Clock, N: Names>(
     let _log = env.store.log();
 }
 
-/// The same after a reflink or a hard link.
+/// After a reflink or a hard link to a path apart from the cache, of what a key or an integrity names, verified first or
+/// not: the bytes are where the path leads, or the error is excused. All that was known stays.
 pub fn after_share<C: Clock, N: Names>(
     env: &Env<MemStore, C, N>,
     cache: &str,
@@ -50,7 +51,8 @@ pub fn after_link<C: Clock, N: Names>(
     let _log = env.store.log();
 }
 
-/// The same after `link_to_hash_sync`, without a key.
+/// After `link_to_hash_sync` to a file apart from the cache: the link lies under the integrity of the bytes that the file
+/// shows, unless something lay there. All keys lead where they led, and all bytes stay except those at that address.
 pub fn after_link_hash<C: Clock, N: Names>(
     env: &Env<MemStore, C, N>,
     cache: &str,

@@ -191,7 +191,7 @@ fn acted<S: Stamps + Reasons>(env: &mut On<S>, act: &str, input: &str) -> Result
     }
 }
 
-/// The same, after how often the clock was asked, and how many numbers.
+/// What an act gives, after how often the clock was asked, and how many numbers.
 fn asked<S: Stamps + Reasons>(env: &mut On<S>, act: &str, input: &str) -> Result<String, Flaw> {
     let (clock, numbers) = (env.clock.asked, env.names.next);
     let came = acted(env, act, input)?;

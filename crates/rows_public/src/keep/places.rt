@@ -17,7 +17,7 @@ pub(crate) struct Places {
     folders: On<Dated<FolderStore<HostRuntime>>>,
 }
 
-/// The same environment, with a store that says when its files changed.
+/// This environment, with a store that says when its files changed.
 fn dated<S>(env: On<S>) -> On<Dated<S>> {
     let Env {
         alloc,

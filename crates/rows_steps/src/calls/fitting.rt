@@ -123,7 +123,7 @@ fn known_again(bytes: &Option<Bytes>) -> Result<Option<Bytes>, AllocError>
     }
 }
 
-/// The same temporary file once more.
+/// This temporary file once more.
 fn temp_again(temp: &PlainTemp) -> Result<PlainTemp, AllocError>
     ensures { IfOk result (λ again. again ≡ temp.now) }
 {

@@ -50,7 +50,7 @@ fn with_copy(alloc: Global, heard: Heard, copied: &str) -> Result<Heard, Flaw> {
     Ok(Heard { text, handle })
 }
 
-/// The same for an answer and its copy.
+/// What an answer says, with what its copy says if that is something else.
 fn both(alloc: Global, answer: PlainAnswer, copy: PlainAnswer) -> Result<Heard, Flaw> {
     let copied = shown_answer(alloc, &copy);
     let_go(copy);

@@ -217,7 +217,7 @@ fn case_in(
     seen_after(alloc, world, &story.places, loss)
 }
 
-/// The same in a world of their own.
+/// What is seen of some calls after a loss in a world of their own.
 fn case(alloc: Global, acts: &str, loss: Option<&str>) -> Result<String, Flaw> {
     let Some(mut world) = world_of(alloc, 1) else {
         return Err(Flaw::Refused);

@@ -40,7 +40,7 @@ fn remove(rt: HostRuntime, root: String) -> io::Result<()> {
     fs::remove_dir_all(&rt, root.as_str())
 }
 
-/// The same in memory if the system has such a folder, and otherwise with other temporary files.
+/// A fresh folder, in memory if the system has such a one, and otherwise with other temporary files.
 fn fresh_folder(rt: HostRuntime, name: &str) -> io::Result<String> {
     match fresh_below(rt, MEMORY, name) {
         Ok(root) => Ok(root),
@@ -141,7 +141,7 @@ fn all_are_there(env: &mut Folders, cache: &str) -> Result<bool> {
     common_is_there(env, cache)
 }
 
-/// The same in an environment of its own.
+/// Whether all threads' keys are there, by an environment of its own.
 fn is_whole(rt: HostRuntime, cache: &str) -> Result<bool> {
     let mut env = folders(rt, ".")?;
     all_are_there(&mut env, cache)

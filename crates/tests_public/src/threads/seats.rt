@@ -40,7 +40,7 @@ fn fails_at_once<L: Ledger, R: Wait>(
     }
 }
 
-/// The same for a put in the first of the seats.
+/// Whether a put in the first of the seats fails so.
 fn put_fails<L: Ledger, R: Wait>(
     rt: &R,
     alloc: Global,

@@ -3,28 +3,28 @@ use crate::calls::{printed, reflinks};
 use anyhow::Result;
 use cacache::env::Memory;
 
-/// That of a key.
+/// A copy of a key's content.
 fn copy_sync(rt: HostRuntime, mut env: &mut Memory) -> Result<String> {
     cacache::write_sync(&mut env, "my-cache", "key", b"my data")?;
     let count = cacache::copy_sync(&mut env, "my-cache", "key", "/my-copy")?; // 7
     printed(rt.alloc(), count)
 }
 
-/// That of a key, which isn't verified.
+/// A copy of a key's content that isn't verified.
 fn copy_unchecked_sync(rt: HostRuntime, mut env: &mut Memory) -> Result<String> {
     cacache::write_sync(&mut env, "my-cache", "key", b"my data")?;
     let count = cacache::copy_unchecked_sync(&mut env, "my-cache", "key", "/my-copy")?; // 7
     printed(rt.alloc(), count)
 }
 
-/// That of an integrity.
+/// A copy of an integrity's content.
 fn copy_hash_sync(rt: HostRuntime, mut env: &mut Memory) -> Result<String> {
     let sri = cacache::write_hash_sync(&mut env, "my-cache", b"my data")?;
     let count = cacache::copy_hash_sync(&mut env, "my-cache", &sri, "/my-copy")?; // 7
     printed(rt.alloc(), count)
 }
 
-/// That of an integrity, which isn't verified.
+/// A copy of an integrity's content that isn't verified.
 fn copy_hash_unchecked_sync(rt: HostRuntime, mut env: &mut Memory) -> Result<String> {
     let sri = cacache::write_hash_sync(&mut env, "my-cache", b"my data")?;
     let count = cacache::copy_hash_unchecked_sync(&mut env, "my-cache", &sri, "/my-copy")?; // 7

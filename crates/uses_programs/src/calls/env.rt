@@ -2,7 +2,7 @@
 use crate::calls::shown;
 use anyhow::Result;
 
-/// That of real folders; it touches none of them.
+/// The environment of real folders; it touches none of them.
 pub(crate) fn folders(rt: HostRuntime) -> Result<String> {
     let env = cacache::env::folders(rt, "/home/me")?;
     let base = env.base.as_str(); // "/home/me"
@@ -17,7 +17,7 @@ pub(crate) fn another(rt: HostRuntime) -> Result<String> {
     shown(rt.alloc(), base.as_bytes())
 }
 
-/// That of a disk in memory.
+/// The environment of a disk in memory.
 pub(crate) fn memory(rt: HostRuntime) -> Result<String> {
     let mut env = cacache::env::memory(rt, "/")?;
     cacache::write_sync(&mut env, "my-cache", "key", b"my data")?;

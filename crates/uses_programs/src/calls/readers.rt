@@ -4,7 +4,7 @@ use anyhow::Result;
 use cacache::env::Memory;
 use std::io::Read;
 
-/// That of a key.
+/// A reader of a key's content.
 fn open(rt: HostRuntime, mut env: &mut Memory) -> Result<String> {
     let alloc = rt.alloc();
     cacache::write_sync(&mut env, "my-cache", "key", b"my data")?;
@@ -16,7 +16,7 @@ fn open(rt: HostRuntime, mut env: &mut Memory) -> Result<String> {
     two(alloc, bytes, algorithm)
 }
 
-/// That of an integrity.
+/// A reader of an integrity's content.
 fn open_hash(rt: HostRuntime, mut env: &mut Memory) -> Result<String> {
     let alloc = rt.alloc();
     let sri = cacache::write_hash_sync(&mut env, "my-cache", b"my data")?;
