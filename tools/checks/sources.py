@@ -1,5 +1,6 @@
 """What `tools/api` and `tools/cited` share: the crates' sources, as `rt fmt` lays them out, and what they declare."""
 import collections
+import difflib
 import functools
 import pathlib
 import re
@@ -12,7 +13,8 @@ from edits import TOP, crates
 ROOTS = ["cacache", "cacache_keep"]  # the crates whose public paths users name
 KINDS = "fn|struct|enum|trait|type|const|static|mod"
 VISIBLE = r"(?:pub(?:\([^)]*\))? )?"
-WRITTEN = ("API.md", "API-inner.md")  # the pages of docs that tools/api writes
+WRITTEN = ("API.md", "API-inner.md", "CLAUSES.md", "LAWS.md")  # the pages of docs that tools/api and tools/clauses write
+LAW = r"after_\w+|\w+_(?:laws|cases|rows|losses|results)"  # the name of a law, of which docs/LAWS.md has docs and clauses
 QUALIFIERS = r"(?:(?:const|unsafe) )*"
 SILENT = r"'\w+|(?:\w+ = )?(?:[A-Z]|Self)(?:::\w+)?"  # arguments of a type that say nothing: `'a`, `S`, `S::File`, `Temp = T`
 SPEAKING = {"Option", "Poll", "Result", "Vec"}  # types that say too little without their arguments
@@ -21,6 +23,9 @@ OPENS, CLOSES = "([{<", ")]}>"
 # An `impl` block: its trait (empty if it is of none), the crate and the name of its type, that type as it is written, and
 # its file with the places where its body begins and ends.
 Block = collections.namedtuple("Block", "trait crate name type file start end")
+# A definition, or a field of a record: its line, the first sentence of the comment above it, the part of its file, whether it is a record, the
+# fields of a record by their names, and what its lines after an arrow begin with, or of a field all that its line names.
+Definition = collections.namedtuple("Definition", "line comment part is_record fields cites")
 
 
 @functools.cache
@@ -212,11 +217,70 @@ def signature(text, at, name):
     return f"{name}({', '.join(arguments)})" + (f" → {short(result)}" if result else "")
 
 
+def braced(text, at):
+    """The place behind the brace that closes the one at this place."""
+    depth = 0
+    for it in re.compile(r"[{}]").finditer(text, at):
+        depth += 1 if it[0] == "{" else -1
+        if depth == 0:
+            return it.end()
+    raise ValueError(f"never closed: {text[at:at + 40]}")
+
+
+@functools.cache
+def uncommented(text):
+    """A text with spaces in the place of comments that are no docs."""
+    return re.sub(r"(?<!/)//(?![/!])[^\n]*", lambda it: " " * len(it[0]), text)
+
+
 def clauses(text, at):
-    """The clauses of a function whose name ends at this place: each on one line, with its name."""
+    """The clauses of a function whose name ends at this place: of each its place, its words before the brace, and the rest on one line."""
+    text = uncommented(text)
     *_, place = head(text, at)
     clause, found = re.compile(r"\s*((?:requires|ensures)\*?(?: \w+)?) (?=\{)"), []
     while start := clause.match(text, place):
-        place = behind(text, start.end())
-        found.append(f"{start[1]} {' '.join(text[start.end():place].split())}")
+        place = braced(text, start.end())
+        found.append((start.start(1), start[1], " ".join(text[start.end():place].split())))
     return found
+
+
+def sentence(lines):
+    """The first sentence of a comment's lines."""
+    first = " ".join(lines[:lines.index("")] if "" in lines else lines)
+    return re.match(r".*?[^.]\.(?=\s|$)|.*", first)[0]
+
+
+def defined(text):
+    """The definitions of a file, by their names. A line `-- ----` begins a part of the file."""
+    found, comment, part, last, place = {}, [], 0, None, 0
+    for line, words in enumerate(text.splitlines(), 1):
+        plain, indent = words.strip(), len(words) - len(words.lstrip())
+        if plain.startswith("-- "):
+            part += plain.startswith("-- ----")
+            comment.append(plain[3:])
+            continue
+        field = re.match(r"pub (\w+) :", plain)
+        item = re.match(r"(?=abbrev |unfoldable |pub |record |data )(?:abbrev |unfoldable )?(?:pub )?(?:record |data )?(?!use |mod )([^\W\d][^\s:({]*)", plain)
+        if last and last.is_record and field and indent == place + 2:
+            last.fields[field[1]] = Definition(line, sentence(comment), part, False, {}, re.findall(r"\b[A-Z]\w*", plain))
+        elif item and indent in (0, 2):
+            last, place = Definition(line, sentence(comment), part, "record " in plain[:12], {}, []), indent
+            found.setdefault(item[1], last)
+        elif last:
+            last.cites.extend(re.findall(r"^→ ([A-Z]\w*)", plain))
+        comment = []
+    return found
+
+
+@functools.cache
+def definitions():
+    """The definitions of each file of the crates, by the crate and the words of the file's path."""
+    places = ((it, it.relative_to(TOP / "crates").with_suffix("").parts) for it in sorted(TOP.glob("crates/*/specs/**/*.antt")))
+    return {(crate, *module): defined(file.read_text()) for file, (crate, _, *module) in places}
+
+
+def differences(page, text, tool):
+    """How a page differs from what it should say."""
+    there = page.read_text() if page.is_file() else ""
+    moved = difflib.unified_diff(there.splitlines(), text.splitlines(), f"docs/{page.name}", f"what {tool} writes", n=0, lineterm="")
+    return [line[:140] for line in moved]
