@@ -1,11 +1,10 @@
-//! Five programs to read, each a file of its own next to this one, and the examples of the public calls, `calls`. Each line of
+//! Four programs to read, each a file of its own next to this one, and the examples of the public calls, `calls`. Each line of
 //! standard input is a command: the name of a program, and its words.
 #![tactic(auto)]
 
 mod calls;
 mod ccache;
 mod fetch;
-mod mirror;
 mod responses;
 mod threads;
 
@@ -25,7 +24,6 @@ where
     match words.as_slice() {
         ["fetch", words @ ..] => fetch::run(host, words),
         ["ccache", words @ ..] => ccache::run(host, words),
-        ["mirror", words @ ..] => mirror::run(rt, host, words),
         ["responses"] => Ok(responses::run(host)?),
         ["threads"] => Ok(threads::run(rt, host)?),
         _ => bail!("There is no program {command}"),
