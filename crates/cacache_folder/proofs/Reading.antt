@@ -1,9 +1,9 @@
 -- Files that are read whole, and pieces of open files.
-use Rattle.std.proofs.{Common.{◌≡◌, ◌≢◌, ◌==◌, ◌&&◌, not, ◌⊎◌, ◌<◌, ◌≤◌, ℕ, Bool, true, false, if◌then◌else◌, List, [], ◌∷◌, ◌++◌, take, drop, length, min, refl, sym, ap, subst, ◌∙◌, inl, inr, arith, take-append-drop, ◌+◌, ◌-◌, length-take-le}, lemmas.{Bool.Decides.{eqb_tells}, List.{take-append-le, take-take, nil_from_length}}}
+use Rattle.std.proofs.{Common.{◌≡◌, ◌≢◌, ◌==◌, ◌&&◌, not, ◌⊎◌, ◌<◌, ◌≤◌, ℕ, Bool, true, false, if◌then◌else◌, List, [], ◌∷◌, ◌++◌, take, drop, length, min, refl, sym, ap, subst, ◌∙◌, inl, inr, arith, take-append-drop, ◌+◌, ◌-◌, length-take-le, eq-eqb}, lemmas.{Bool.Decides.{eqb_tells}, List.{take-append-le, take-take}}}
 use Rattle.std.specs.{Prelude.{Option, Result, Ok, Err}, Io.{StartsWith, appended_bytes}}
 use Rattle.std_io.specs.declared.io.kind.ErrorKind.{ErrorKind}
 use Rattle.std_io.specs.declared.io.kind.ErrorKind.TheVariants as kind
-use Rattle.cacache_system.specs.{declared.call.{SystemCall.TheVariants.{Read, ReadRest}, CallResult.{CallResult, TheVariants.{Bytes, Failed}}, CallItem.{CallItem}}, CallLog.{MakesCall}, CallsOf.{Stage, over, trying, taking_memory, reading_front, reading_rest, read_whole, interrupts, after, Ends, RunLogged, CallsLogged}, Seen.{NumberedFile}, AnswersOf.{read_piece}}
+use Rattle.cacache_system.specs.{declared.call.{SystemCall.TheVariants.{Read, ReadRest}, CallResult.{CallResult, TheVariants.{Bytes, Failed}}, CallItem.{CallItem}}, CallLog.{MakesCall}, CallsOf.{Stage, over, trying, taking_memory, reading_front, front_known, measuring, reading_rest, interrupts, after, Ends, RunLogged, CallsLogged}, Seen.{NumberedFile}, AnswersOf.{read_piece}}
 use Rattle.cacache_folder.specs.Interruptions.{Insists}
 use Rattle.cacache_folder.proofs.CallRuns.{run_call, run_none, run_took, run_refused, run_as, calls_end, calls_run, insists_run, insists_front, interrupted_only}
 
@@ -28,11 +28,11 @@ rest_refused front whole file why old new makes is =
     (run_none (taking_memory (over (Bytes (front ++ appended_bytes front whole)))) (Failed why) new (inl (ap Failed is)))
 
 -- a first read, and then the rest
-pub front_run : (file same size : ℕ) (front : List ℕ) (end : CallResult) (old mid new : Log) → Insists (Read file size) (Bytes front) old mid → same ≡ file
-    → RunLogged (reading_rest front same) end mid new → RunLogged (reading_front false size file) end old new
-front_run file same size front end old mid new insists is run =
-    calls_run (reading_front false size file) (reading_rest front file) end old mid new (insists_front file size (Bytes front) old mid insists)
-    (run_as (reading_rest front same) (reading_rest front file) end mid new run (ap (reading_rest front) is))
+pub front_run : (file same : ℕ) (given front : List ℕ) (end : CallResult) (old mid new : Log) → Insists (Read file 2048) (Bytes given) old mid → same ≡ file → front ≡ given
+    → RunLogged (front_known 2048 front same) end mid new → RunLogged (reading_front false 2048 file) end old new
+front_run file same given front end old mid new insists is gives run =
+    calls_run (reading_front false 2048 file) (front_known 2048 given file) end old mid new (insists_front file 2048 (Bytes given) old mid insists)
+    (run_as (front_known 2048 front same) (front_known 2048 given file) end mid new run (ap (front_known 2048 front) is ∙ ap (λ (xs : List ℕ). front_known 2048 xs file) gives))
 
 front_ends : (file size : ℕ) (why : ErrorKind) (b : Bool) → interrupts why ≡ b → Ends (if b then reading_front true size file else over (Failed why)) (Failed why)
 front_ends file size why true is = ap Failed (interrupted_only why is)
@@ -45,30 +45,24 @@ front_fails file size why old new insists =
     calls_end (reading_front false size file) (after (reading_front true size file) (Failed why)) (Failed why) old new
     (insists_front file size (Failed why) old new insists) (front_ends file size why (interrupts why) refl)
 
--- a file that says it has no bytes
-pub whole_empty : (size file : ℕ) (room : List ℕ) (end : CallResult) (old new : Log) → length room ≡ min size 131072 → size ≡ 0
-    → RunLogged (reading_rest room file) end old new → RunLogged (taking_memory (read_whole size file)) end old new
-whole_empty size file room end old new fits is run =
-    let none : room ≡ [] = nil_from_length room (fits ∙ ap (λ (n : ℕ). min n 131072) is) in
-    run_took (read_whole size file) end old new
-    (run_as (reading_rest room file) (read_whole size file) end old new run
-    (ap (λ (xs : List ℕ). reading_rest xs file) none ∙ ap (λ (n : ℕ). read_whole n file) (sym is)))
+front_if : (b : Bool) (front : List ℕ) (file : ℕ) (end : CallResult) (old new : Log) → length front == 2048 ≡ b
+    → RunLogged (if b then measuring front file else taking_memory (reading_rest front file)) end old new → RunLogged (front_known 2048 front file) end old new
+front_if b front file end old new is run =
+    subst (λ (x : Bool). RunLogged (if x then measuring front file else taking_memory (reading_rest front file)) end old new) (sym is) run
 
-front_so : (size file : ℕ) → size ≢ 0 → (((size == 0) ≡ true) × (size ≡ 0)) ⊎ (((size == 0) ≡ false) × (size ≢ 0))
-    → reading_front false (min size 131072) file ≡ read_whole size file
-front_so size file some (inl none) = absurd (some none.1)
-front_so size file some (inr is) = sym (ap (λ (b : Bool). if b then reading_rest [] file else reading_front false (min size 131072) file) is.0)
+-- a front that came back full
+pub front_full : (front : List ℕ) (file : ℕ) (end : CallResult) (old new : Log) → length front ≡ 2048
+    → RunLogged (measuring front file) end old new → RunLogged (front_known 2048 front file) end old new
+front_full front file end old new is run = front_if true front file end old new (eq-eqb (length front) 2048 is) run
 
-front_is : (size file : ℕ) → size ≢ 0 → reading_front false (min size 131072) file ≡ read_whole size file
-front_is size file some = front_so size file some (eqb_tells size 0)
+unequal : (n most : ℕ) → n ≢ most → (((n == most) ≡ true) × (n ≡ most)) ⊎ (((n == most) ≡ false) × (n ≢ most)) → (n == most) ≡ false
+unequal n most differ (inl same) = absurd (differ same.1)
+unequal n most differ (inr is) = is.0
 
--- one that says it has some
-pub whole_front : (size file : ℕ) (room : List ℕ) (end : CallResult) (old new : Log) → length room ≡ min size 131072 → size ≢ 0
-    → RunLogged (reading_front false (length room) file) end old new → RunLogged (taking_memory (read_whole size file)) end old new
-whole_front size file room end old new fits some run =
-    run_took (read_whole size file) end old new
-    (run_as (reading_front false (length room) file) (read_whole size file) end old new run
-    (ap (λ (n : ℕ). reading_front false n file) fits ∙ front_is size file some))
+-- one that didn't
+pub front_short : (front : List ℕ) (file : ℕ) (end : CallResult) (old new : Log) → length front ≢ 2048
+    → RunLogged (taking_memory (reading_rest front file)) end old new → RunLogged (front_known 2048 front file) end old new
+front_short front file end old new some run = front_if false front file end old new (unequal (length front) 2048 some (eqb_tells (length front) 2048)) run
 
 -- memory is refused before
 pub took_refused : (s : Stage) (why : ErrorKind) (log : Log) → why ≡ kind.OutOfMemory → RunLogged (taking_memory s) (Failed why) log log

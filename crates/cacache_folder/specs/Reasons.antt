@@ -1,5 +1,5 @@
 -- Why the system failed a step.
-use Rattle.std.specs.{Prelude.{◌≡◌, Option, IsSomeAnd}, declared.io.ErrorKind.{ErrorKind}}
+use Rattle.std.specs.{Prelude.{◌≡◌, Option, Some, IsSomeAnd, ⊤}, declared.io.ErrorKind.{ErrorKind}}
 use Rattle.cacache_core.specs.Contexts.{fault_of}
 use Rattle.cacache_store.specs.{declared.store.answer.Answer.TheVariants.{Failed}, Plain.{PlainAnswer}}
 
@@ -7,3 +7,8 @@ use Rattle.cacache_store.specs.{declared.store.answer.Answer.TheVariants.{Failed
 abbrev pub Explains : Option ErrorKind → Option ErrorKind → PlainAnswer → Type 0
 Explains old new (Failed fault) = IsSomeAnd new (λ kind. fault ≡ fault_of kind)
 Explains old new answer = new ≡ old
+
+-- a failed step leaves this kind of error
+abbrev pub LeavesReason : ErrorKind → Option ErrorKind → PlainAnswer → Type 0
+LeavesReason kind new (Failed fault) = new ≡ Some kind
+LeavesReason kind new answer = ⊤

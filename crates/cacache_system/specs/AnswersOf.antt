@@ -5,7 +5,7 @@ use Rattle.std_io.specs.declared.io.kind.ErrorKind.TheVariants as kind
 use Rattle.cacache_core.specs.{Contexts.{fault_of}, declared.errors.Fault.TheVariants.{Device}}
 use Rattle.cacache_store.specs.declared.store.step.Step.TheVariants as steps
 use Rattle.cacache_store.specs.declared.store.answer.Answer.TheVariants as answers
-use Rattle.cacache_system.specs.{declared.call.{CallResult.{CallResult, TheVariants.{Done, Opened, Count, Bytes, Info, Names, Failed}}, CallItem.{CallItem}}, Seen.{NumberedFile, NumberedTemp, NumberedStep, NumberedAnswer}, CallsOf.{Stage, over, only, trying, taking_memory, opening, to_give, to_sync, to_sync_folder, to_read, appending, sizing, asking_source, standing, making, keeping, opening_folder, RunLogged}}
+use Rattle.cacache_system.specs.{declared.call.{CallResult.{CallResult, TheVariants.{Done, Opened, Count, Bytes, Info, Names, Failed}}, CallItem.{CallItem}}, Seen.{NumberedFile, NumberedTemp, NumberedStep, NumberedAnswer}, CallsOf.{Stage, over, only, trying, taking_memory, opening, to_give, to_sync, to_sync_folder, opening_whole, appending, sizing, asking_source, standing, making, keeping, opening_folder, RunLogged}}
 use Rattle.cacache_system.specs.declared.call.SystemCall.TheVariants as asks
 
 -- What a store remembers of its steps chooses no more than how the calls of a step begin: nothing that matters, that the
@@ -47,7 +47,7 @@ first hint (steps.CreateTemp p) = taking_memory (only (asks.CreateNew p 384))
 first hint (steps.Write t b) = trying false (asks.Write t.number b)
 first hint (steps.Persist t p) = persist hint t p
 first hint (steps.Append p b) = appending p b
-first hint (steps.ReadAll p) = opening to_read p
+first hint (steps.ReadAll p) = opening_whole p
 first hint (steps.Open p) = taking_memory (opening to_give p)
 first hint (steps.Read f max) = read_piece f (min max 131072)
 first hint (steps.Exists p) = only (asks.Stat p)

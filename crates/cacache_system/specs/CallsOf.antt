@@ -8,12 +8,11 @@ use Rattle.cacache_store.specs.declared.store.answer.Kind.TheVariants as kinds
 use Rattle.cacache_store.specs.declared.store.answer.{Kind.{Kind}, Name.{Name}}
 use Rattle.cacache_system.specs.{declared.call.{SystemCall.{SystemCall, TheVariants.{OpenToRead, CreateNew, OpenToAppend, OpenFolder, Read, ReadNames, ReadRest, Write, Sync, SetOwner, SetMode, StatFile, Stat, StatLink, Rename, MakeFolder, RemoveFile, CopyFile, RealPath}}, FileInfo.{FileInfo}, CallResult.{CallResult, TheVariants.{Done, Opened, Count, Bytes, Info, Names, Failed}}, CallItem.{CallItem}}, CallLog.{GainsCalls}, ListedNames.{text_of, is_proper, is_passed, names_in, with_slash}}
 
--- what a file is opened for: to be handed out, to be synced, to be synced as a folder, or to be read whole
+-- what a file is opened for: to be handed out, to be synced, or to be synced as a folder
 pub data Purpose : Type 0 where
   to_give : Purpose
   to_sync : Purpose
   to_sync_folder : Purpose
-  to_read : Purpose
 
 -- A folder that is listed: the number that it was opened under, its path with a `/` after it, and how many reads of
 -- names may still come.
@@ -34,7 +33,9 @@ pub data Stage : Type 0 where
   taking_memory : Stage → Stage
   opening : Purpose → List ℕ → Stage
   checking : Purpose → ℕ → Stage
+  opening_whole : List ℕ → Stage
   reading_front : Bool → ℕ → ℕ → Stage
+  measuring : List ℕ → ℕ → Stage
   reading_rest : List ℕ → ℕ → Stage
   appending : List ℕ → List ℕ → Stage
   sizing : List ℕ → Stage
@@ -91,7 +92,9 @@ wants (trying again call) = Some call
 wants (taking_memory s) = wants s
 wants (opening purpose path) = Some (OpenToRead path)
 wants (checking purpose file) = Some (StatFile file)
+wants (opening_whole path) = Some (OpenToRead path)
 wants (reading_front again size file) = Some (Read file size)
+wants (measuring front file) = Some (StatFile file)
 wants (reading_rest front file) = Some (ReadRest file)
 wants (appending path bytes) = Some (OpenToAppend path)
 wants (sizing path) = Some (Stat path)
@@ -135,17 +138,17 @@ abbrev pub if_folder : Kind → ErrorKind → Stage → Stage
 if_folder kinds.Folder why s = s
 if_folder other why s = over (Failed why)
 
--- a file that says it has no bytes is read to its end nevertheless
-abbrev pub read_whole : ℕ → ℕ → Stage
-read_whole size file =
-    if size == 0 then reading_rest [] file else reading_front false (min size 131072) file
+-- A front that came back full may be the front of a long file, whose size is asked. The file is read to its end in any
+-- case: a short read needn't be the last.
+abbrev pub front_known : ℕ → List ℕ → ℕ → Stage
+front_known size front file =
+    if length front == size then measuring front file else taking_memory (reading_rest front file)
 
 -- what is done with a file that was opened
 abbrev pub opened : Purpose → ℕ → FileInfo → Stage
 opened to_give file info = unless_folder info.kind (over (Opened file))
 opened to_sync file info = unless_folder info.kind (only (Sync file))
 opened to_sync_folder file info = if_folder info.kind kind.NotADirectory (only (Sync file))
-opened to_read file info = taking_memory (read_whole info.size file)
 
 -- both are known to be one file or folder; if a system gives no numbers, none are known to be
 abbrev pub is_same_node : FileInfo → FileInfo → Bool
@@ -293,9 +296,11 @@ after (trying again call) result =
 after (taking_memory s) result = after s result
 after (opening purpose path) (Opened file) = checking purpose file
 after (checking purpose file) (Info info) = opened purpose file info
-after (reading_front again size file) (Bytes front) = reading_rest front file
+after (opening_whole path) (Opened file) = reading_front false 2048 file
+after (reading_front again size file) (Bytes front) = front_known size front file
 after (reading_front again size file) (Failed why) =
     if interrupts why then reading_front true size file else over (Failed why)
+after (measuring front file) (Info info) = taking_memory (reading_rest front file)
 after (reading_rest front file) (Bytes rest) = taking_memory (over (Bytes (front ++ rest)))
 after (appending path bytes) (Opened file) = trying false (Write file bytes)
 after (sizing path) (Info info) = unless_folder info.kind (over (Info info))

@@ -30,7 +30,6 @@ impl Node {
 }
 
 /// A folder that is held open.
-#[derive(Drop)]
 pub(crate) struct Held<F> {
     /// Its path, without a `/` at the end.
     pub(crate) path: String,
@@ -42,6 +41,19 @@ pub(crate) struct Held<F> {
     node: Option<Node>,
     /// Keeps it open.
     _file: F,
+}
+
+// Written out, so that what drops one calls this.
+impl<F: Drop> Drop for Held<F> {
+    fn drop(self) {
+        let Held {
+            path: _path,
+            inside: _inside,
+            is_first: _,
+            node: _,
+            _file: _closed,
+        } = self;
+    }
 }
 
 impl<F: AsRawFd> Held<F> {
@@ -81,6 +93,39 @@ impl<F> Held<F> {
     pub(crate) fn beneath(&self, alloc: Global, path: &str) -> Result<String, AllocError> {
         let rest = rest_below(self.path.as_str(), path).unwrap_or("");
         joined(alloc, self.inside.as_str(), rest)
+    }
+
+    /// What the system knows the folder by that is above this one.
+    fn above<R: Files>(&self, rt: &R, alloc: Global) -> io::Result<Node> {
+        let up = joined(alloc, self.inside.as_str(), "..")?;
+        Ok(Node::of(&rt.metadata(up.as_str())?))
+    }
+
+    /// Makes sure that this folder is in a known one.
+    pub(crate) fn must_be_in<R: Files>(
+        &self,
+        rt: &R,
+        alloc: Global,
+        known: Node,
+    ) -> io::Result<()> {
+        if self.above(rt, alloc)?.is_same(known) {
+            Ok(())
+        } else {
+            Err(no_folder())
+        }
+    }
+}
+
+/// The folder with this path, if it was opened.
+pub(crate) fn held_as<F: AsRawFd + Drop>(
+    alloc: Global,
+    path: &str,
+    is_first: bool,
+    opened: io::Result<F>,
+) -> io::Result<Held<F>> {
+    match opened {
+        Ok(file) => Ok(Held::new(alloc, path, is_first, file)?),
+        Err(error) => Err(error),
     }
 }
 

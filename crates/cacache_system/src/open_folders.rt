@@ -4,8 +4,9 @@
 //! Meanwhile somebody who may write there can put a link in the place of a folder. So the folder at which a walk begins
 //! is opened once, and each one below it in the one above. A call goes to `/proc/self/fd/N/name`, where `N` is the
 //! number of the open folder: that leads into it, whatever stands at its path by then.
-use crate::held::{Held, Node, joined, leads, no_folder, rest_below};
+use crate::held::{Held, Node, held_as, joined, leads, no_folder, rest_below};
 use cacache_core::keeping::let_go;
+use cacache_core::paths::{CONTENT_AREA, INDEX_AREA};
 use std::alloc::{AllocError, Global};
 use std::fs::{File, OpenFile};
 use std::io;
@@ -20,13 +21,22 @@ const WALKS: usize = 4;
 const BELOW: usize = 4;
 
 /// The folders that walks hold open.
-#[derive(Drop)]
 pub(crate) struct OpenFolders<R: Files> {
     alloc: Global,
     /// In the order in which they were opened.
     held: Vec<Held<R::File>>,
     /// Paths at which the walks found neither file, folder nor link.
     odd: Vec<String>,
+}
+
+impl<R: Files> Drop for OpenFolders<R> {
+    fn drop(self) {
+        let OpenFolders {
+            alloc: _,
+            held: _held,
+            odd: _odd,
+        } = self;
+    }
 }
 
 /// The path of the folder in which a path names something.
@@ -52,6 +62,62 @@ fn unless_missing(error: io::Error) -> io::Error {
     match error.kind() {
         ErrorKind::NotFound => io::Error::from(ErrorKind::Unsupported),
         _ => error,
+    }
+}
+
+/// What the system knows the folder at the path by. None if the path ends in a `/`, so that a link is followed.
+fn folder_unless_led<R: Files>(rt: &R, path: &str) -> io::Result<Option<Node>> {
+    if path.ends_with('/') {
+        Ok(None)
+    } else {
+        Ok(Some(folder_at(rt, path)?))
+    }
+}
+
+/// Opens a folder by its path, and makes sure that it is the one that was named, if it was.
+fn open_named<R: Files>(
+    rt: &R,
+    alloc: Global,
+    folder: &str,
+    named: Option<Node>,
+) -> io::Result<R::File> {
+    let asked = joined(alloc, folder, "/")?;
+    unless_other(File::open(rt, asked.as_str()), named)
+}
+
+/// A folder that was opened, if it is the one that was named.
+fn unless_other<F: OpenFile + Drop>(opened: io::Result<F>, named: Option<Node>) -> io::Result<F> {
+    let file = opened?;
+    match (file.metadata(), named) {
+        (Ok(_), None) => Ok(file),
+        (Ok(found), Some(named)) if Node::of(&found).is_same(named) => Ok(file),
+        (Ok(_), Some(_)) => Err(no_folder()),
+        (Err(error), _) => Err(error),
+    }
+}
+
+/// Opens the folder at the path by its name in one that is held above it. A link there is followed.
+fn open_in<R: Files>(
+    rt: &R,
+    alloc: Global,
+    above: &Held<R::File>,
+    path: &str,
+) -> io::Result<Held<R::File>>
+where
+    R::File: AsRawFd,
+{
+    let mut asked = above.beneath(alloc, path)?;
+    asked.push('/')?;
+    held_as(alloc, path, false, File::open(rt, asked.as_str()))
+}
+
+/// The folder of a cache and its other area, if a walk begins at one of the two.
+fn other_area(folder: &str) -> Option<(&str, &'static str)> {
+    let (cache, area) = folder.rsplit_once('/')?;
+    match area {
+        INDEX_AREA => Some((cache, CONTENT_AREA)),
+        CONTENT_AREA => Some((cache, INDEX_AREA)),
+        _ => None,
     }
 }
 
@@ -181,16 +247,23 @@ where
         let Some(above) = self.held.as_mut_slice().get_mut(at) else {
             return Err(no_folder());
         };
-        let asked = joined(alloc, above.beneath(alloc, path)?.as_str(), "/")?;
-        let held = Held::new(alloc, path, false, File::open(rt, asked.as_str())?)?;
-        let up = joined(alloc, held.inside.as_str(), "..")?;
-        let found = Node::of(&rt.metadata(up.as_str())?);
-        if !found.is_same(above.known(rt)?) {
-            return Err(no_folder());
+        let known = above.known(rt)?;
+        let held = open_in(rt, alloc, above, path)?;
+        self.hold_in(rt, held, known)
+    }
+
+    /// Holds a folder that was opened in a known one.
+    fn hold_in(&mut self, rt: &R, held: Held<R::File>, known: Node) -> io::Result<()> {
+        match held.must_be_in(rt, self.alloc, known) {
+            Ok(()) => self.push(held),
+            Err(error) => Err(error),
         }
-        self.make_room(false);
-        self.held.push(held)?;
-        Ok(())
+    }
+
+    /// Holds one folder more.
+    fn push(&mut self, held: Held<R::File>) -> io::Result<()> {
+        self.make_room(held.is_first);
+        Ok(self.held.push(held)?)
     }
 
     /// Holds the folder at the path, and those on the way to it from the folder at which a walk began. If no walk leads
@@ -231,38 +304,61 @@ where
         Ok((self.near(from)?, self.near(to)?))
     }
 
-    /// Opens the folder at which a walk begins, which is held from now on. A link is followed only if the path ends in a
-    /// `/`. Without `/proc` no walk begins.
-    fn begin(&mut self, rt: &R, path: &str, folder: &str) -> io::Result<R::Dir> {
-        let named = if path.ends_with('/') {
-            None
-        } else {
-            Some(folder_at(rt, path)?)
+    /// Opens a folder at which a walk begins, which is held from now on. A link is followed only if the path ends in a `/`.
+    fn begin(&mut self, rt: &R, path: &str, folder: &str) -> io::Result<()> {
+        let named = folder_unless_led(rt, path)?;
+        let opened = open_named(rt, self.alloc, folder, named);
+        self.push(held_as(self.alloc, folder, true, opened)?)
+    }
+
+    /// Holds the folder of contents too, if a walk begins in the index beside it, and the other way round, so that no link
+    /// takes its place before the walk through that. One that can't be opened, such as a link, isn't held.
+    fn hold_other(&mut self, rt: &R, folder: &str) -> Result<(), AllocError> {
+        let Some((cache, other)) = other_area(folder) else {
+            return Ok(());
         };
-        let asked = joined(self.alloc, folder, "/")?;
-        let file = File::open(rt, asked.as_str())?;
-        let opened = Node::of(&file.metadata()?);
-        if !opened.is_same(named.unwrap_or(opened)) {
-            return Err(no_folder());
+        let other = format!(in self.alloc; "{cache}/{other}")?;
+        if !self.is_first(other.as_str()) {
+            let _unless_it_fails = self.begin(rt, other.as_str(), other.as_str());
         }
-        let held = Held::new(self.alloc, folder, true, file)?;
-        let listing = rt.open_dir(held.inside.as_str()).map_err(unless_missing)?;
-        self.make_room(true);
-        self.held.push(held)?;
-        Ok(listing)
+        Ok(())
+    }
+
+    /// Whether a walk began at the folder.
+    fn is_first(&self, folder: &str) -> bool {
+        self.held
+            .as_slice()
+            .iter()
+            .any(|held| held.is_first && held.path.as_str() == folder)
+    }
+
+    /// Lists a folder at which a walk began. Without `/proc` it isn't held any more.
+    fn list_first(&mut self, rt: &R, folder: &str) -> io::Result<R::Dir> {
+        let mut listed = Err(no_folder());
+        for held in self.held.as_slice() {
+            if held.is_first && held.path.as_str() == folder {
+                listed = rt.open_dir(held.inside.as_str());
+            }
+        }
+        match listed {
+            Ok(listing) => Ok(listing),
+            Err(error) => {
+                self.leave(folder);
+                Err(unless_missing(error))
+            }
+        }
     }
 
     /// Opens a folder to list it. Below a folder that is held no link is followed. Elsewhere a walk begins.
     pub(crate) fn list(&mut self, rt: &R, path: &str) -> io::Result<R::Dir> {
         let folder = path.trim_end_matches('/');
-        for held in self.held.as_slice() {
-            if held.is_first && held.path.as_str() == folder {
-                return rt.open_dir(held.inside.as_str());
+        if !self.is_first(folder) {
+            if let Some(there) = self.within(rt, folder)? {
+                return rt.open_dir(there.as_str());
             }
+            self.hold_other(rt, folder)?;
+            self.begin(rt, path, folder)?;
         }
-        match self.within(rt, folder)? {
-            Some(there) => rt.open_dir(there.as_str()),
-            None => self.begin(rt, path, folder),
-        }
+        self.list_first(rt, folder)
     }
 }

@@ -5,7 +5,7 @@ use Rattle.std_io.specs.declared.io.kind.ErrorKind.{ErrorKind}
 use Rattle.std_io.specs.declared.io.kind.ErrorKind.TheVariants as kind
 use Rattle.cacache_store.specs.declared.store.answer.{Kind.{Kind}, Name.{Name}}
 use Rattle.cacache_store.specs.declared.store.answer.Kind.TheVariants as kinds
-use Rattle.cacache_system.specs.{declared.call.{SystemCall.{SystemCall}, CallResult.{CallResult}, CallItem.{CallItem}}, ListedNames.{is_passed, names_in, with_slash, text_of, is_proper}, Seen.{NumberedFile}, CallsOf.{Stage, Purpose, Reader, over, only, trying, taking_memory, opening, checking, reading_front, reading_rest, sizing, standing, making, confirming, opening_folder, following, reading_names, asking_kind, to_give, to_sync, to_sync_folder, to_read, wants, after, was_interrupted, interrupts, is_absent, is_no_folder, unless_folder, if_folder, above_of, below, climb, unmade, reader, read_once, more_names, entered, ask_kind, next_name, broken_off, Runs}, AnswersOf.{Hint, is_missing, make_dirs, list, read_piece}}
+use Rattle.cacache_system.specs.{declared.call.{SystemCall.{SystemCall}, CallResult.{CallResult}, CallItem.{CallItem}}, ListedNames.{is_passed, names_in, with_slash, text_of, is_proper}, Seen.{NumberedFile}, CallsOf.{Stage, Purpose, Reader, over, only, trying, taking_memory, opening, checking, opening_whole, reading_front, measuring, reading_rest, sizing, standing, making, confirming, opening_folder, following, reading_names, asking_kind, to_give, to_sync, to_sync_folder, wants, after, was_interrupted, interrupts, is_absent, is_no_folder, unless_folder, if_folder, above_of, below, climb, unmade, reader, read_once, more_names, entered, ask_kind, next_name, broken_off, Runs}, AnswersOf.{Hint, is_missing, make_dirs, list, read_piece}}
 use Rattle.cacache_system.specs.declared.call.SystemCall.TheVariants as asks
 use Rattle.cacache_system.specs.declared.call.CallResult.TheVariants as says
 use Rattle.cacache_system_model.specs.CallForms.{changes_nothing, makes_folder, writes_file, Only}
@@ -109,7 +109,6 @@ only_writes calls number bytes end runs = only_kind writes_file InWrites write_a
 
 abbrev pub ToRead : Purpose → Type 0
 ToRead to_give = Unit {0}
-ToRead to_read = Unit {0}
 ToRead purpose = ⊥
 
 abbrev pub Looking : Stage → Type 0
@@ -119,7 +118,9 @@ Looking (trying again call) = changes_nothing call ≡ true
 Looking (taking_memory s) = Looking s
 Looking (opening purpose p) = ToRead purpose
 Looking (checking purpose f) = ToRead purpose
+Looking (opening_whole p) = Unit {0}
 Looking (reading_front again size f) = Unit {0}
+Looking (measuring front f) = Unit {0}
 Looking (reading_rest front f) = Unit {0}
 Looking (sizing p) = Unit {0}
 Looking (opening_folder p) = Unit {0}
@@ -135,6 +136,8 @@ look_asked (trying again c) call h w = is_kind changes_nothing c call w h
 look_asked (taking_memory s) call h w = look_asked s call h w
 look_asked (opening purpose p) call h w = is_kind changes_nothing (asks.OpenToRead p) call w refl
 look_asked (checking purpose f) call h w = is_kind changes_nothing (asks.StatFile f) call w refl
+look_asked (opening_whole p) call h w = is_kind changes_nothing (asks.OpenToRead p) call w refl
+look_asked (measuring front f) call h w = is_kind changes_nothing (asks.StatFile f) call w refl
 look_asked (reading_front again size f) call h w = is_kind changes_nothing (asks.Read f size) call w refl
 look_asked (reading_rest front f) call h w = is_kind changes_nothing (asks.ReadRest f) call w refl
 look_asked (sizing p) call h w = is_kind changes_nothing (asks.Stat p) call w refl
@@ -168,9 +171,12 @@ look_stays (opening purpose p) said h = tt
 look_stays (checking to_sync f) said h = absurd h
 look_stays (checking to_sync_folder f) said h = absurd h
 look_stays (checking to_give f) (says.Info info) h = by_no_folder Looking info.kind (over (says.Opened f)) tt tt
-look_stays (checking to_read f) (says.Info info) h = by_if Looking (info.size == 0) (reading_rest [] f) (reading_front false (min info.size 131072) f) tt tt
 look_stays (checking purpose f) said h = tt
-look_stays (reading_front again size f) (says.Bytes front) h = tt
+look_stays (opening_whole p) (says.Opened f) h = tt
+look_stays (opening_whole p) said h = tt
+look_stays (measuring front f) (says.Info info) h = tt
+look_stays (measuring front f) said h = tt
+look_stays (reading_front again size f) (says.Bytes front) h = by_if Looking (length front == size) (measuring front f) (taking_memory (reading_rest front f)) tt tt
 look_stays (reading_front again size f) (says.Failed why) h = by_if Looking (interrupts why) (reading_front true size f) (over (says.Failed why)) tt tt
 look_stays (reading_front again size f) said h = tt
 look_stays (reading_rest front f) (says.Bytes rest) h = tt

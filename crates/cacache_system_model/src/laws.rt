@@ -17,7 +17,7 @@ pub fn change_laws()
 {}
 
 /// A step that asks for something, or opens a file, answers and leaves what the disk's table says of it.
-pub fn look_laws()
+pub fn question_laws()
     ensures exists { ExistsAgrees }
     ensures size { SizeAgrees }
     ensures open { OpenAgrees }
@@ -40,14 +40,14 @@ pub fn read_laws()
 {}
 
 /// An append and a copy do what the disk's table says of them; and a write, except that its file grows in the tree.
-pub fn write_laws()
+pub fn append_laws()
     ensures append { AppendAgrees }
     ensures write { WriteAgrees }
     ensures copy { CopyAgrees }
 {}
 
 /// A step that makes folders does what the disk's table says of it, whether it asks for them first or not.
-pub fn folder_laws()
+pub fn make_dirs_laws()
     ensures make { MakeDirsAgrees }
 {}
 
@@ -92,7 +92,7 @@ pub fn mirror_laws()
 {}
 
 /// The model can be met: each call can happen as it says.
-pub fn model_laws()
+pub fn satisfiable_laws()
     ensures calls { CallsCanGoWell }
 {}
 

@@ -46,6 +46,7 @@ pub(crate) fn is_between(rt: HostRuntime) -> io::Result<bool> {
 }
 
 /// A source that gives the same byte each time, or none.
+#[derive(Drop)]
 struct Same(Option<u8>);
 
 impl RandomSource for Same {
@@ -60,13 +61,15 @@ impl RandomSource for Same {
     }
 }
 
-/// The numbers of a source, a time and a process.
+/// The numbers of a source, a time and a process. A number is a source of bytes that are all this one.
 fn names_of(source: &str, millis: u64, process: u32) -> Result<ProcessNames, Flaw> {
     match source {
         "no-source" => Ok(ProcessNames::starting(millis, process)),
         "failing" => Ok(ProcessNames::random(&Same(None), millis, process)),
-        "ones" => Ok(ProcessNames::random(&Same(Some(1)), millis, process)),
-        _ => Err(Flaw::NotRead),
+        byte => match byte.parse::<u8>() {
+            Ok(byte) => Ok(ProcessNames::random(&Same(Some(byte)), millis, process)),
+            Err(_) => Err(Flaw::NotRead),
+        },
     }
 }
 

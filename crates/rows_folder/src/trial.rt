@@ -4,12 +4,13 @@ use crate::environment::{is_between, numbers, numbers_differ};
 use crate::memory::appended;
 use crate::place::Place;
 use crate::root::Root;
-use crate::ways::ways_of;
+use crate::ways::{KINDS, failing, ways_of};
 use cacache_core::keeping::{beside, let_go, set};
 use rows::answers::given;
 use rows::words::{column, cut, string_of};
 use rows::{Flaw, Outcome, Trial};
 use std::alloc::Global;
+use std::io::ErrorKind;
 
 /// Tries rows on real folders, as the head of `folder.rows` says. The rows of a group have one folder.
 pub(crate) struct Folders {
@@ -77,6 +78,29 @@ impl Group {
         came
     }
 
+    /// The reason of the store after an append that fails for this one.
+    fn reason_of(&mut self, kind: ErrorKind) -> Result<String, Flaw> {
+        set(
+            &mut self.place,
+            Place::watched(self.root.rt, failing(kind))?,
+        );
+        let_go(self.came("Append /file x")?);
+        self.came("reason")
+    }
+
+    /// Each kind of error that isn't the store's reason after an append that fails so, with that reason.
+    fn other_reasons(&mut self) -> Result<String, Flaw> {
+        let mut others = String::from_str(self.alloc, "others:")?;
+        for kind in KINDS {
+            let reason = self.reason_of(kind)?;
+            let named = format!(in self.alloc; "{kind:?}")?;
+            if reason != named {
+                others.push_str(format!(in self.alloc; " {named} {reason}")?.as_str())?;
+            }
+        }
+        Ok(others)
+    }
+
     /// What an act on the folder or the store gives.
     fn got(&mut self, act: &str) -> Result<String, Flaw> {
         match cut(act) {
@@ -85,6 +109,7 @@ impl Group {
             ("look", path) => self.root.look(path),
             ("rename", words) => self.root.rename(words),
             ("holders", _) => self.place.holders(self.alloc),
+            ("reasons", _) => self.other_reasons(),
             _ => self.came(act),
         }
     }

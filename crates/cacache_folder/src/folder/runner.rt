@@ -67,7 +67,7 @@ impl<Y: System + AllocGlobal + Clone + Drop> Runner<Y> {
     /// The whole file at the path.
     fn read_all(&mut self, path: &str) -> io::Result<Bytes>
         ensures kept { self.new.reason ≡ self.old.reason }
-        ensures ran { RunLogged (calls.opening calls.to_read path.now) (said says.Bytes result)
+        ensures ran { RunLogged (calls.opening_whole path.now) (said says.Bytes result)
             (Y.calls self.old.system) (Y.calls self.new.system) }
     {
         let bytes = read_all(&mut self.system, path)?;

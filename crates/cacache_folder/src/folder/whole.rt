@@ -8,7 +8,6 @@ ghost use Rattle.cacache_system.specs.AnswersOf as table;
 ghost use Rattle.cacache_folder.specs.{FolderNumbers.{numbered_file}, Goings.{piece}, Interruptions.{Insists}};
 
 use crate::folder::again::ask_to_read;
-use crate::folder::files::opened;
 use crate::folder::fresh::count_of;
 use crate::folder::opened::{SystemFile, gives_no_more};
 use cacache_core::bytes::Bytes;
@@ -21,14 +20,8 @@ use std::sync::Arc;
 /// The most bytes that one read asks for. The buffer of a read is filled with zeros first.
 const PIECE: usize = 128 * 1024;
 
-/// Room for the first read of a file of `size` bytes, and memory for all of it and a byte more.
-fn room_for(alloc: Global, size: usize) -> Result<Vec<u8>, AllocError>
-    ensures { IfOk result (λ room. length room.items ≡ min size 131072) }
-{
-    let mut room = Vec::with_capacity(alloc, size.saturating_add(1))?;
-    room.resize(size.min(PIECE), 0)?;
-    Ok(room)
-}
+/// What the first read of a whole file asks for. Most buckets have less.
+const FRONT: usize = 2048;
 
 /// These bytes and all that is left of the file.
 fn with_rest<Y: System + AllocGlobal>(
@@ -58,43 +51,82 @@ fn read_to<Y: System>(system: &mut Y, file: &mut Y::File, bytes: &mut Vec<u8>) -
     }
 }
 
-/// The bytes of one read of the file, for which there is room.
-fn read_front<Y: System>(system: &mut Y, file: &mut Y::File, room: Vec<u8>) -> io::Result<Vec<u8>>
-    ensures same { Y.number file.new ≡ Y.number file.old }
-    ensures made { Insists (asks.Read (Y.number file.old) (length room.items))
-        (said (λ front. says.Bytes front.items) result) (Y.calls system.old) (Y.calls system.new) }
+/// The front of a file of `size` bytes, with memory for all of it and a byte more.
+fn with_room(alloc: Global, front: &[u8], size: usize) -> Result<Vec<u8>, AllocError>
+    ensures { IfOk result (λ bytes. bytes.items ≡ front.now) }
 {
-    let mut bytes = room;
-    let count = read_to(system, file, &mut bytes)?;
-    bytes.truncate(count);
+    let mut bytes = Vec::with_capacity(alloc, size.saturating_add(1))?;
+    bytes.extend_from_slice(front)?;
     Ok(bytes)
 }
 
-/// All that the file has. `size` is what it says about its size in bytes: most files of that size are read in one
-/// read, and a second one sees the end.
-fn read_whole<Y: System + AllocGlobal>(
+/// The front of a file of `size` bytes, and all that is left of it.
+fn after_front<Y: System + AllocGlobal>(
     system: &mut Y,
     file: &mut Y::File,
+    front: &[u8],
     size: usize,
 ) -> io::Result<Bytes>
-    ensures { RunLogged (calls.taking_memory (calls.read_whole size (Y.number file.old)))
+    ensures { RunLogged (calls.taking_memory (calls.reading_rest front.now (Y.number file.old)))
         (said says.Bytes result) (Y.calls system.old) (Y.calls system.new) }
 {
-    let room = room_for(system.alloc(), size)?;
-    if size == 0 {
-        return with_rest(system, file, room);
+    let bytes = with_room(system.alloc(), front, size)?;
+    with_rest(system, file, bytes)
+}
+
+/// The front and all that is left of a file, which is asked how long it is.
+fn read_long<Y: System + AllocGlobal>(
+    system: &mut Y,
+    file: &mut Y::File,
+    front: &[u8],
+) -> io::Result<Bytes>
+    ensures { RunLogged (calls.measuring front.now (Y.number file.old))
+        (said says.Bytes result) (Y.calls system.old) (Y.calls system.new) }
+{
+    match system.stat_file(file) {
+        Ok(info) => after_front(system, file, front, count_of(info.size)),
+        Err(error) => Err(error),
     }
-    let front = read_front(system, file, room)?;
-    with_rest(system, file, front)
+}
+
+/// All that the file has, after one read of its front. Most files end there, and another read sees the end.
+fn read_on<Y: System + AllocGlobal>(
+    system: &mut Y,
+    file: &mut Y::File,
+    front: &[u8],
+) -> io::Result<Bytes>
+    ensures { RunLogged (calls.front_known 2048 front.now (Y.number file.old))
+        (said says.Bytes result) (Y.calls system.old) (Y.calls system.new) }
+{
+    let size = front.len();
+    if size == FRONT {
+        read_long(system, file, front)
+    } else {
+        after_front(system, file, front, size)
+    }
+}
+
+/// The whole file, from which nothing was read yet.
+fn read_whole<Y: System + AllocGlobal>(system: &mut Y, file: &mut Y::File) -> io::Result<Bytes>
+    ensures { RunLogged (calls.reading_front false 2048 (Y.number file.old))
+        (said says.Bytes result) (Y.calls system.old) (Y.calls system.new) }
+{
+    let mut buf = [0; FRONT];
+    match ask_to_read(system, file, &mut buf) {
+        Ok(count) => read_on(system, file, &buf[..count]),
+        Err(error) => Err(error),
+    }
 }
 
 /// The whole file at the path.
 pub(crate) fn read_all<Y: System + AllocGlobal>(system: &mut Y, path: &str) -> io::Result<Bytes>
-    ensures { RunLogged (calls.opening calls.to_read path.now) (said says.Bytes result)
+    ensures { RunLogged (calls.opening_whole path.now) (said says.Bytes result)
         (Y.calls system.old) (Y.calls system.new) }
 {
-    let (mut file, info) = opened(system, path)?;
-    read_whole(system, &mut file, count_of(info.size))
+    match system.open_to_read(path) {
+        Ok(mut file) => read_whole(system, &mut file),
+        Err(error) => Err(error),
+    }
 }
 
 /// A shared vector of so many zeros.

@@ -16,7 +16,7 @@ pub fn answer_laws()
 {}
 
 /// A listing of the contents lists the addresses that the cache holds, and these are one list.
-pub fn contents_laws()
+pub fn holding_laws()
     ensures shown { ContentsShown }
     ensures holds { ListingsHold }
     ensures agree { HoldingsAgree }

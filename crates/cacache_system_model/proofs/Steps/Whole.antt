@@ -9,15 +9,15 @@ use Rattle.cacache_store.specs.declared.store.answer.Answer.TheVariants as answe
 use Rattle.cacache_store.specs.Plain.{PlainAnswer}
 use Rattle.cacache_disk.specs.{declared.{luck.Luck.TheVariants.{Plain}, node.Node.{Node, TheVariants.{Folder, File, Link}}}, Tree.{Tree, look}, LedTo.{found, file_at}, Apply.{apply, unless, readable}}
 use Rattle.cacache_system.specs.declared.call.SystemCall.TheVariants as asks
-use Rattle.cacache_system.specs.{declared.call.{CallItem.{CallItem}, CallResult.{CallResult}}, CallsOf.{to_read, over, taking_memory, reading_front, reading_rest, read_whole, interrupts, after, Ends, Runs}}
+use Rattle.cacache_system.specs.{declared.call.{CallItem.{CallItem}, CallResult.{CallResult}}, CallsOf.{over, taking_memory, opening_whole, reading_front, front_known, measuring, reading_rest, interrupts, after, Ends, Runs}}
 use Rattle.cacache_system.specs.declared.call.CallResult.TheVariants as says
-use Rattle.cacache_system_model.specs.{Machine.{under, OpenFile, node_of, Machine, IsRefused, ReadsFile, unread}, Calls.{EachCall}, Laws.{outcome, Leads, IsDone}, Reading.{ReadAllAgrees}}
-use Rattle.cacache_system_model.proofs.{Refused.{same_outcome}, Leading.{Way, Claim, over_leads, call_leads}, Claims.{way_of, claim_of, cases_of, agrees_of, taking_leads, claim_plain, claim_broken, claim_memory}, Steps.{Opening.{OpenedOn, Openings, opening_leads, newly_open, said_leads, on_open}, Looking.{table_fails, no_file, file_there, folder_there, link_there}, Reading.{drop_taken}}}
+use Rattle.cacache_system_model.specs.{Machine.{under, OpenFile, node_of, Machine, IsRefused, ReadsFile, ShowsNode, ShowsPlace, unread}, Calls.{EachCall}, Laws.{outcome, Leads, IsDone}, Reading.{ReadAllAgrees}}
+use Rattle.cacache_system_model.proofs.{Refused.{same_outcome}, Leading.{Way, Claim, over_leads, call_leads}, Claims.{way_of, claim_of, cases_of, agrees_of, taking_leads, claim_plain, claim_broken, claim_memory}, Steps.{Opening.{OpenedOn, PathOpens, path_leads, newly_open, said_leads, on_open}, Looking.{table_fails, no_file, file_there, folder_there, link_there}, Reading.{drop_taken}}}
 
 -- What becomes of the first read of a file: it gave the front, it failed, or a signal came and it may be given up.
-abbrev FrontTried : Way → Claim → Machine → ℕ → CallResult → Machine → Type 0
-FrontTried R P n number said l =
-    ((front : List ℕ) × (said ≡ says.Bytes front) × Leads R (reading_rest front number) l P)
+abbrev FrontTried : Way → Claim → Machine → ℕ → ℕ → CallResult → Machine → Type 0
+FrontTried R P n size number said l =
+    ((front : List ℕ) × (said ≡ says.Bytes front) × Leads R (front_known size front number) l P)
     ⊎ ((why : ErrorKind) × (said ≡ says.Failed why)
     × (((interrupts why ≡ true) × (l ≡ n) × P (says.Failed kind.Interrupted) n) ⊎ ((interrupts why ≡ false) × P (says.Failed why) l)))
 
@@ -25,7 +25,7 @@ front_ends : (again : Bool) (size number : ℕ) (end : CallResult) (n m : Machin
 front_ends true size number end n m P ends same holds = subst (λ (x : Machine). P end x) same (subst (λ (e : CallResult). P e n) (sym ends) (holds refl))
 front_ends false size number end n m P ends same holds = absurd ends
 
-front_on : (R : Way) (size number : ℕ) (n l : Machine) (P : Claim) (items : List CallItem) (again : Bool) (said end : CallResult) (last : Machine) → FrontTried R P n number said l
+front_on : (R : Way) (size number : ℕ) (n l : Machine) (P : Claim) (items : List CallItem) (again : Bool) (said end : CallResult) (last : Machine) → FrontTried R P n size number said l
     → (l ≡ n → P (says.Failed kind.Interrupted) n → Runs (reading_front true size number) items end → EachCall R n items last → P end last)
     → Runs (after (reading_front again size number) said) items end → EachCall R l items last → P end last
 front_on R size number n l P items again said end last (inl (front, same, leads)) more runs each =
@@ -39,7 +39,7 @@ front_on R size number n l P items again said end last (inr (why, same, inr (is,
     over_leads R (says.Failed why) l P holds items end last (subst (λ (c : Bool). Runs (if c then reading_front true size number else over (says.Failed why)) items end) is failed) each
 
 front_leads : (R : Way) (size number : ℕ) (n : Machine) (P : Claim) (again : Bool) → (again ≡ true → P (says.Failed kind.Interrupted) n)
-    → ((said : CallResult) (l : Machine) → R n (asks.Read number size) said l → FrontTried R P n number said l) → Leads R (reading_front again size number) n P
+    → ((said : CallResult) (l : Machine) → R n (asks.Read number size) said l → FrontTried R P n size number said l) → Leads R (reading_front again size number) n P
 front_leads R size number n P again given_up tries [] end m runs each = front_ends again size number end n m P runs each given_up
 front_leads R size number n P again given_up tries (item ∷ items) end m runs (next, happens, others) =
     let asked : Some (asks.Read number size) ≡ Some item.call = runs.0 in
@@ -111,8 +111,38 @@ module _ (b : Bool) (m : Machine) (path : List ℕ) (done : b ≡ false → IsDo
       (claim_broken b m (steps.ReadAll path) done why n broke refl fine (ap (λ (x : Machine). x.tree) left ∙ ready.tree))))
       (cases_of b l (asks.ReadRest number) said n happens))
 
+  some_leads : (node : Node) (front : List ℕ) (l : Machine) → look m.tree names ≡ Some node → ReadSoFar m l number names (length front)
+      → ((bytes : List ℕ) → node ≡ File bytes → front ++ drop (length front) bytes ≡ bytes)
+      → Leads (way_of b) (taking_memory (reading_rest front number)) l (claim_of b m (steps.ReadAll path))
+  some_leads node front l stands ready fits =
+      taking_leads (way_of b) (reading_rest front number) l (claim_of b m (steps.ReadAll path)) (claim_memory b m (steps.ReadAll path) done l refl ready.tree)
+      (rest_leads node front l stands ready fits)
+
+  -- a file from which a full front was read is asked for its size
+  size_leads : (node : Node) (front : List ℕ) (l : Machine) → look m.tree names ≡ Some node → ReadSoFar m l number names (length front)
+      → ((bytes : List ℕ) → node ≡ File bytes → front ++ drop (length front) bytes ≡ bytes) → Leads (way_of b) (measuring front number) l (claim_of b m (steps.ReadAll path))
+  size_leads node front l stands ready fits =
+      call_leads (way_of b) (measuring front number) (asks.StatFile number) l (claim_of b m (steps.ReadAll path)) refl (λ end never. absurd never) (λ said n happens.
+      ⊎_elim
+      (λ (most, all, well).
+      let shown : ShowsNode names l said n = on_open l n number (record { place = under names; read = length front }) said (λ file. ShowsPlace file.place l) ready.file well in
+      said_leads b (measuring front number) said (says.Info shown.0) n (claim_of b m (steps.ReadAll path)) shown.1
+      (subst (λ (x : Machine). Leads (way_of b) (taking_memory (reading_rest front number)) x (claim_of b m (steps.ReadAll path))) (sym shown.3)
+      (some_leads node front l stands ready fits)))
+      (λ (broke, why, same, fine, part, left).
+      said_leads b (measuring front number) said (says.Failed why) n (claim_of b m (steps.ReadAll path)) same
+      (over_leads (way_of b) (says.Failed why) n (claim_of b m (steps.ReadAll path))
+      (claim_broken b m (steps.ReadAll path) done why n broke refl fine (ap (λ (x : Machine). x.tree) left ∙ ready.tree))))
+      (cases_of b l (asks.StatFile number) said n happens))
+
+  known_leads : (node : Node) (size : ℕ) (front : List ℕ) (l : Machine) (c : Bool) → look m.tree names ≡ Some node → ReadSoFar m l number names (length front)
+      → ((bytes : List ℕ) → node ≡ File bytes → front ++ drop (length front) bytes ≡ bytes)
+      → Leads (way_of b) (if c then measuring front number else taking_memory (reading_rest front number)) l (claim_of b m (steps.ReadAll path))
+  known_leads node size front l true stands ready fits = size_leads node front l stands ready fits
+  known_leads node size front l false stands ready fits = some_leads node front l stands ready fits
+
   front_read : (node : Node) (size : ℕ) (n l : Machine) (said : CallResult) (most : Option ℕ) → look m.tree names ≡ Some node → OpenedOn m n number names
-      → ReadsFile (take (readable most size)) number (unread names) (Some node) n said l → FrontTried (way_of b) (claim_of b m (steps.ReadAll path)) n number said l
+      → ReadsFile (take (readable most size)) number (unread names) (Some node) n said l → FrontTried (way_of b) (claim_of b m (steps.ReadAll path)) n size number said l
   unfolding folder_refused
   front_read Folder size n l said most stands open_on reads =
       let refused = folder_refused n l said stands open_on.tree reads in
@@ -122,7 +152,7 @@ module _ (b : Bool) (m : Machine) (path : List ℕ) (done : b ≡ false → IsDo
       inl (
         front,
         same,
-        rest_leads (File bytes) front l stands
+        known_leads (File bytes) size front l (length front == size) stands
             (record {
               tree = became.0 ∙ open_on.tree;
               file = ap (λ (f : ℕ → Option OpenFile). f number) became.1 ∙ newly_open n.files number (record { place = under names; read = 0 + length front }) ∙ ap (λ (k : ℕ). Some (record { place = under names; read = k })) (zero-add (length front));
@@ -154,21 +184,16 @@ module _ (b : Bool) (m : Machine) (path : List ℕ) (done : b ≡ false → IsDo
       ))
       (cases_of b n (asks.Read number size) said l happens))
 
-  whole_leads : (node : Node) (size : ℕ) (n : Machine) (c : Bool) → look m.tree names ≡ Some node → OpenedOn m n number names → (size == 0) ≡ c
-      → Leads (way_of b) (if c then reading_rest [] number else reading_front false (min size 131072) number) n (claim_of b m (steps.ReadAll path))
-  whole_leads node size n true stands open_on is =
-      rest_leads node [] n stands (record { tree = open_on.tree; file = open_on.file }) (λ bytes same. refl)
-  whole_leads node size n false stands open_on is = front_so node (min size 131072) n stands open_on
-
-all_openings : (b : Bool) (m : Machine) (path : List ℕ) → (b ≡ false → IsDone m (steps.ReadAll path)) → Openings b m to_read path (claim_of b m (steps.ReadAll path))
-all_openings b m path done = record {
+whole_opens : (b : Bool) (m : Machine) (path : List ℕ) → (b ≡ false → IsDone m (steps.ReadAll path)) → PathOpens b m (opening_whole path) path (claim_of b m (steps.ReadAll path))
+whole_opens b m path done = record {
+  wanted = refl;
+  never = λ end ends. ends;
+  fails = λ why. refl;
   refuses = λ fault why is of memory. claim_plain b m (steps.ReadAll path) done (says.Failed why) m
       (apply_all m.tree path (Err fault) (no_file m.tree path IsADirectory fault is) ∙ table_fails (steps.ReadAll path) fault why m m refl of memory refl);
   breaks = λ why n broke fine stays synced. claim_broken b m (steps.ReadAll path) done why n broke refl fine stays;
-  opens = λ number names node info n inode is stands open_on described.
-      taking_leads (way_of b) (read_whole info.size number) n (claim_of b m (steps.ReadAll path)) (claim_memory b m (steps.ReadAll path) done n refl open_on.tree)
-      (whole_leads b m path done number names is node info.size n (info.size == 0) stands open_on refl);
+  opens = λ number names node n is stands open_on. front_so b m path done number names is node 2048 n stands open_on;
 }
 
 pub read_all_agrees : ReadAllAgrees
-read_all_agrees m hint path = agrees_of m hint (steps.ReadAll path) (λ b done. opening_leads b m to_read path (claim_of b m (steps.ReadAll path)) (all_openings b m path done))
+read_all_agrees m hint path = agrees_of m hint (steps.ReadAll path) (λ b done. path_leads b m (opening_whole path) path (claim_of b m (steps.ReadAll path)) (whole_opens b m path done))

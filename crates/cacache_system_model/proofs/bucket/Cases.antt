@@ -1,16 +1,11 @@
 -- A read that ends within a line.
-use Rattle.std.proofs.{Common.{◌≡◌, ℕ, true, false, length, List, [], ◌∷◌, ◌++◌, inr, take, drop, refl, sym, ap, ◌∙◌, append-nil}, lemmas.List.{take-append-drop}}
-use Rattle.cacache_store.specs.declared.store.answer.Kind.TheVariants as kinds
-use Rattle.cacache_system.specs.{declared.call.{FileInfo.{FileInfo}, CallResult.TheVariants.{Opened, Count, Bytes, Info}}, CallLog.{item}, AnswersOf.{no_hint}}
+use Rattle.std.proofs.{Common.{◌≡◌, ℕ, false, length, List, [], ◌∷◌, ◌++◌, inr, take, drop, refl, sym, ap, ◌∙◌, append-nil}, lemmas.List.{take-append-drop}}
+use Rattle.cacache_system.specs.{declared.call.CallResult.TheVariants.{Opened, Count, Bytes}, CallLog.{item}, AnswersOf.{no_hint}}
 use Rattle.cacache_system.specs.declared.call.SystemCall.TheVariants as asks
 use Rattle.cacache_entry.specs.{Entry.{Entry, line_of, closed_line}, Bucket.{entries_of}}
 use Rattle.cacache_value.proofs.AppendedLines.{torn_line}
 use Rattle.cacache_system_model.specs.bucket.{File.{LineWrite, OpensToAppend, Starts, Shows, Answers, Opens, Reads, Ends, idle}, Calls.{AppendRan, ReadRan}, Cases.{in_parts, TornReadsHappen}}
 use Rattle.cacache_system_model.proofs.bucket.Lookups.{entry_alone}
-
--- a file that says it has no bytes is read to its end
-abbrev no_size : FileInfo
-no_size = record { kind = kinds.File; regular = true; size = 0; inode = 0; device = 0; mode = 384; owner = 0; group = 0 }
 
 abbrev write_of : Entry → List ℕ → LineWrite
 write_of e visible = record { process = 1; durable = false; entry = e; visible = visible }
@@ -21,7 +16,7 @@ appends_in_parts e n =
     let count = length line in
     let part = take n (line_of e) in
     let rest = drop n line in
-    let until = Starts 1 false e ∷ Shows part ∷ Opens 2 ∷ Reads 2 part ∷ Ends 2 ∷ Shows rest ∷ [] in
+    let until = Starts 1 false e ∷ Opens 2 ∷ Shows part ∷ Reads 2 part ∷ Ends 2 ∷ Shows rest ∷ [] in
     let later = until ++ Answers 1 count ∷ [] in
     record {
       hint = no_hint;
@@ -35,13 +30,13 @@ appends_in_parts e n =
 reads_in_parts : (e : Entry) (n : ℕ) → ReadRan 2 (take n (line_of e)) (idle []) (in_parts e n)
 reads_in_parts e n =
     let part = take n (line_of e) in
-    let before = OpensToAppend 1 ∷ Starts 1 false e ∷ Shows part ∷ [] in
+    let before = OpensToAppend 1 ∷ Starts 1 false e ∷ [] in
     let after = Shows (drop n (closed_line false e)) ∷ Answers 1 (length (closed_line false e)) ∷ [] in
-    let later = Reads 2 part ∷ Ends 2 ∷ after in
+    let later = Shows part ∷ Reads 2 part ∷ Ends 2 ∷ after in
     record {
       hint = no_hint;
       path = [];
-      items = item (asks.OpenToRead []) (Opened 4) ∷ item (asks.StatFile 4) (Info no_size) ∷ item (asks.ReadRest 4) (Bytes part) ∷ [];
+      items = item (asks.OpenToRead []) (Opened 4) ∷ item (asks.Read 4 2048) (Bytes []) ∷ item (asks.ReadRest 4) (Bytes part) ∷ [];
       runs = (refl, (refl, (refl, inr refl)));
       made = (
         before ++ Opens 2 ∷ [],
@@ -49,7 +44,7 @@ reads_in_parts e n =
         refl,
         tt,
         (before, [], refl, refl),
-        ([], later, refl, tt, ([], refl, refl), (later, [], refl, tt, (Reads 2 part ∷ [], after, refl, ([], refl, refl)), refl)),
+        ([], later, refl, tt, ([], refl, refl), (later, [], refl, tt, (Shows part ∷ Reads 2 part ∷ [], after, refl, ([], refl, refl)), refl)),
       );
     }
 
@@ -65,9 +60,9 @@ torn_reads_happen e n formed fits short =
         (
           (refl, formed, fits),
           (
-            (write_of e [], refl, (rest, split)),
+            refl,
             (
-              refl,
+              (write_of e [], refl, (rest, split)),
               (
                 ([], refl, ([], sym (append-nil part))),
                 (

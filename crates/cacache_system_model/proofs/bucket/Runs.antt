@@ -1,8 +1,8 @@
 -- The calls of an append and of a read of a whole file, taken apart.
-use Rattle.std.proofs.Common.{◌≡◌, inl, inr, min, ℕ, Bool, true, false, if◌then◌else◌, List, [], ◌∷◌, ◌++◌, refl, sym, ap, subst, ◌∙◌, append_assoc}
+use Rattle.std.proofs.Common.{◌≡◌, inl, inr, length, ℕ, Bool, true, false, if◌then◌else◌, List, [], ◌∷◌, ◌++◌, refl, sym, ap, subst, ◌∙◌, append_assoc, append-nil}
 use Rattle.std.specs.{Prelude.{None, Some, ◌==◌}, List.{AllByRecursion}}
 use Rattle.std_io.specs.declared.io.kind.ErrorKind.{ErrorKind}
-use Rattle.cacache_system.specs.{declared.call.{SystemCall.{SystemCall}, CallItem.{CallItem}, CallResult.{CallResult, TheVariants.{Opened, Count, Bytes, Info, Failed}}}, CallLog.{item}, CallsOf.{Stage, Runs, over, trying, taking_memory, opening, checking, to_read, reading_front, reading_rest, read_whole, appending, interrupts, was_interrupted, after}}
+use Rattle.cacache_system.specs.{declared.call.{SystemCall.{SystemCall}, CallItem.{CallItem}, CallResult.{CallResult, TheVariants.{Opened, Count, Bytes, Info, Failed}}}, CallLog.{item}, CallsOf.{Stage, Runs, over, trying, taking_memory, opening_whole, reading_front, measuring, reading_rest, appending, interrupts, was_interrupted, after}}
 use Rattle.cacache_system.specs.declared.call.SystemCall.TheVariants as asks
 use Rattle.cacache_system_model.specs.bucket.Calls.{FitsCall, AllFit, IsBeforeWrite, WritesOnce, AppendsWriteOnce, said_by, all_said, IsBeforeRest, ReadsGoToEnd}
 
@@ -106,13 +106,32 @@ rest_on front bytes file (i ∷ items) runs =
       whole = ends.3;
     }
 
-front_on : (bytes : List ℕ) (again : Bool) (size file : ℕ) (items : List CallItem) → Runs (reading_front again size file) items (Bytes bytes) → ReadsOn [] bytes file items
-front_on bytes true size file [] runs = absurd cc
-front_on bytes false size file [] runs = absurd runs
-front_on bytes again size file (i ∷ items) runs =
+measured_on : (front bytes : List ℕ) (file : ℕ) (call : SystemCall) (said : CallResult) (items : List CallItem) → asks.StatFile file ≡ call → FitsCall call said
+    → Runs (after (measuring front file) said) items (Bytes bytes) → ReadsOn (front ++ said_by said) bytes file items
+measured_on front bytes file call (Info info) items is fits runs =
+    subst (λ l. ReadsOn l bytes file items) (sym (append-nil front)) (rest_on front bytes file items (taken_runs (reading_rest front file) items bytes runs))
+measured_on front bytes file call (Bytes other) items is fits runs = absurd (subst (λ c. FitsCall c (Bytes other)) (sym is) fits)
+measured_on front bytes file call said items is fits runs = let wrong : said ≡ Bytes bytes = (over_ends said (Bytes bytes) items runs).1 in absurd cc
+
+measuring_on : (front bytes : List ℕ) (file : ℕ) (items : List CallItem) → Runs (measuring front file) items (Bytes bytes) → AllFit items → ReadsOn front bytes file items
+measuring_on front bytes file [] runs fit = absurd runs
+measuring_on front bytes file (i ∷ items) runs fit =
+    let asked : Some (asks.StatFile file) ≡ Some i.call = runs.0 in
+    let call : asks.StatFile file ≡ i.call = cc in
+    reads_before front bytes file i items (subst IsBeforeRest call tt) (measured_on front bytes file i.call i.result items call fit.0 runs.1)
+
+known_on : (b : Bool) (front bytes : List ℕ) (file : ℕ) (items : List CallItem)
+    → Runs (if b then measuring front file else taking_memory (reading_rest front file)) items (Bytes bytes) → AllFit items → ReadsOn front bytes file items
+known_on true front bytes file items runs fit = measuring_on front bytes file items runs fit
+known_on false front bytes file items runs fit = rest_on front bytes file items (taken_runs (reading_rest front file) items bytes runs)
+
+front_on : (bytes : List ℕ) (again : Bool) (size file : ℕ) (items : List CallItem) → Runs (reading_front again size file) items (Bytes bytes) → AllFit items → ReadsOn [] bytes file items
+front_on bytes true size file [] runs fit = absurd cc
+front_on bytes false size file [] runs fit = absurd runs
+front_on bytes again size file (i ∷ items) runs fit =
     let asked : Some (asks.Read file size) ≡ Some i.call = runs.0 in
     let call : asks.Read file size ≡ i.call = cc in
-    reads_before [] bytes file i items (subst IsBeforeRest call tt) (said i.result runs.1 (λ more. front_on bytes true size file items more))
+    reads_before [] bytes file i items (subst IsBeforeRest call tt) (said i.result runs.1 (λ more. front_on bytes true size file items more fit.1))
   where
     failed : (b : Bool) (why : ErrorKind) → Runs (if b then reading_front true size file else over (Failed why)) items (Bytes bytes)
         → (Runs (reading_front true size file) items (Bytes bytes) → ReadsOn [] bytes file items) → ReadsOn [] bytes file items
@@ -121,30 +140,13 @@ front_on bytes again size file (i ∷ items) runs =
 
     said : (r : CallResult) → Runs (after (reading_front again size file) r) items (Bytes bytes)
         → (Runs (reading_front true size file) items (Bytes bytes) → ReadsOn [] bytes file items) → ReadsOn (said_by r) bytes file items
-    said (Bytes front) runs more = rest_on front bytes file items runs
+    said (Bytes front) runs more = known_on (length front == size) front bytes file items runs fit.1
     said (Failed why) runs more = failed (interrupts why) why runs more
     said r runs more = let wrong : r ≡ Bytes bytes = (over_ends r (Bytes bytes) items runs).1 in absurd cc
 
-whole_on : (b : Bool) (size file : ℕ) (bytes : List ℕ) (items : List CallItem) → Runs (if b then reading_rest [] file else reading_front false (min size 131072) file) items (Bytes bytes) → ReadsOn [] bytes file items
-whole_on true size file bytes items runs = rest_on [] bytes file items runs
-whole_on false size file bytes items runs = front_on bytes false (min size 131072) file items runs
-
-checked_on : (file : ℕ) (bytes : List ℕ) (call : SystemCall) (said : CallResult) (items : List CallItem) → asks.StatFile file ≡ call → FitsCall call said
-    → Runs (after (checking to_read file) said) items (Bytes bytes) → ReadsOn (said_by said) bytes file items
-checked_on file bytes call (Info info) items is fits runs = whole_on (info.size == 0) info.size file bytes items (taken_runs (read_whole info.size file) items bytes runs)
-checked_on file bytes call (Bytes other) items is fits runs = absurd (subst (λ c. FitsCall c (Bytes other)) (sym is) fits)
-checked_on file bytes call said items is fits runs = let wrong : said ≡ Bytes bytes = (over_ends said (Bytes bytes) items runs).1 in absurd cc
-
-checking_on : (file : ℕ) (bytes : List ℕ) (items : List CallItem) → Runs (checking to_read file) items (Bytes bytes) → AllFit items → ReadsOn [] bytes file items
-checking_on file bytes [] runs fit = absurd runs
-checking_on file bytes (i ∷ items) runs fit =
-    let asked : Some (asks.StatFile file) ≡ Some i.call = runs.0 in
-    let call : asks.StatFile file ≡ i.call = cc in
-    reads_before [] bytes file i items (subst IsBeforeRest call tt) (checked_on file bytes i.call i.result items call fit.0 runs.1)
-
 opened_on : (path bytes : List ℕ) (call : SystemCall) (said : CallResult) (items : List CallItem) → asks.OpenToRead path ≡ call → FitsCall call said
-    → Runs (after (opening to_read path) said) items (Bytes bytes) → AllFit items → (file : ℕ) × (said ≡ Opened file) × ReadsOn [] bytes file items
-opened_on path bytes call (Opened file) items is fits runs fit = (file, refl, checking_on file bytes items runs fit)
+    → Runs (after (opening_whole path) said) items (Bytes bytes) → AllFit items → (file : ℕ) × (said ≡ Opened file) × ReadsOn [] bytes file items
+opened_on path bytes call (Opened file) items is fits runs fit = (file, refl, front_on bytes false 2048 file items runs fit)
 opened_on path bytes call (Bytes other) items is fits runs fit = absurd (subst (λ c. FitsCall c (Bytes other)) (sym is) fits)
 opened_on path bytes call said items is fits runs fit = let wrong : said ≡ Bytes bytes = (over_ends said (Bytes bytes) items runs).1 in absurd cc
 

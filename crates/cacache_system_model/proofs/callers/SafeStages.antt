@@ -7,7 +7,7 @@ use Rattle.cacache_core.specs.PathNames.{Names}
 use Rattle.cacache_store.specs.declared.store.answer.{Kind.{Kind}, Name.{Name}}
 use Rattle.cacache_store.specs.declared.store.answer.Kind.TheVariants as kinds
 use Rattle.cacache_disk.specs.{declared.node.Node.TheVariants.{File}, Tree.{Tree, look}}
-use Rattle.cacache_system.specs.{declared.call.{FileInfo.{FileInfo}, SystemCall.{SystemCall}, CallResult.{CallResult}}, ListedNames.{text_of, is_proper, is_passed, names_in, with_slash}, CallsOf.{Stage, Reader, reader, read_once, more_names, entered as entered_name, ask_kind, next_name, broken_off, is_no_folder, opening_folder, following, reading_names, asking_kind, Purpose, to_give, to_sync, to_sync_folder, to_read, over, only, trying, taking_memory, opening, checking, reading_front, reading_rest, appending, standing as asking_folder, making, confirming, sizing, asking_source, asking_target, asking_end, making_end, resolving, making_fresh, filling, replacing, scrapping, copied, place_fresh, fresh_beside, fresh_number, name_taken, already_exists, is_link, after, interrupts, is_absent, is_same_node, unless_folder, if_folder, opened, below, climb, unmade, above_of, keeping, preparing, sync_again, give}}
+use Rattle.cacache_system.specs.{declared.call.{FileInfo.{FileInfo}, SystemCall.{SystemCall}, CallResult.{CallResult}}, ListedNames.{text_of, is_proper, is_passed, names_in, with_slash}, CallsOf.{Stage, Reader, reader, read_once, more_names, entered as entered_name, ask_kind, next_name, broken_off, is_no_folder, opening_folder, following, reading_names, asking_kind, Purpose, to_give, to_sync, to_sync_folder, over, only, trying, taking_memory, opening, checking, opening_whole, reading_front, measuring, reading_rest, appending, standing as asking_folder, making, confirming, sizing, asking_source, asking_target, asking_end, making_end, resolving, making_fresh, filling, replacing, scrapping, copied, place_fresh, fresh_beside, fresh_number, name_taken, already_exists, is_link, after, interrupts, is_absent, is_same_node, unless_folder, if_folder, opened, below, climb, unmade, above_of, keeping, preparing, sync_again, give}}
 use Rattle.cacache_system.specs.declared.call.SystemCall.TheVariants as asks
 use Rattle.cacache_system.specs.declared.call.CallResult.TheVariants as says
 use Rattle.cacache_system_model.specs.{Machine.{Machine}, Calls.{OccursSomehow}, callers.Opened.{Avoids, IsApart}}
@@ -29,7 +29,9 @@ module _ (q : Names) where
   IsSafe (taking_memory s) m = IsSafe s m
   IsSafe (opening purpose path) m = Unit {0}
   IsSafe (checking purpose number) m = Readable m number
+  IsSafe (opening_whole path) m = Unit {0}
   IsSafe (reading_front again size number) m = Readable m number
+  IsSafe (measuring front number) m = Readable m number
   IsSafe (reading_rest front number) m = Readable m number
   IsSafe (appending path bytes) m = Unit {0}
   IsSafe (asking_folder path) m = Unit {0}
@@ -74,16 +76,19 @@ module _ (q : Names) where
   opened_safe to_give number info m h = unless_safe info.kind (over (says.Opened number)) m tt
   opened_safe to_sync number info m h = unless_safe info.kind (only (asks.Sync number)) m (h.0, h.1)
   opened_safe to_sync_folder number info m h = if_safe info.kind kind.NotADirectory (only (asks.Sync number)) m (h.0, h.1)
-  opened_safe to_read number info m h = cond_safe (info.size == 0) (reading_rest [] number) (reading_front false (min info.size 131072) number) m h h
 
   pub checked_safe : (purpose : Purpose) (number : ℕ) (said : CallResult) (m : Machine) → Readable m number → IsSafe (after (checking purpose number) said) m
   checked_safe purpose number (says.Info info) m h = opened_safe purpose number info m h
   checked_safe purpose number said m h = tt
 
   pub front_safe : (again : Bool) (size number : ℕ) (said : CallResult) (m : Machine) → Readable m number → IsSafe (after (reading_front again size number) said) m
-  front_safe again size number (says.Bytes front) m h = h
+  front_safe again size number (says.Bytes front) m h = cond_safe (length front == size) (measuring front number) (taking_memory (reading_rest front number)) m h h
   front_safe again size number (says.Failed why) m h = cond_safe (interrupts why) (reading_front true size number) (over (says.Failed why)) m h tt
   front_safe again size number said m h = tt
+
+  pub measured_safe : (front : List ℕ) (number : ℕ) (said : CallResult) (m : Machine) → Readable m number → IsSafe (after (measuring front number) said) m
+  measured_safe front number (says.Info info) m h = h
+  measured_safe front number said m h = tt
 
   pub rest_safe : (front : List ℕ) (number : ℕ) (said : CallResult) (m : Machine) → IsSafe (after (reading_rest front number) said) m
   rest_safe front number (says.Bytes rest) m = tt
@@ -154,6 +159,10 @@ module _ (q : Names) where
   pub file_safe : (purpose : Purpose) (path : List ℕ) (said : CallResult) (m n : Machine) → OccursSomehow m (asks.OpenToRead path) said n → IsSafe (after (opening purpose path) said) n
   file_safe purpose path (says.Opened number) m n h = open_ready path m n number h
   file_safe purpose path said m n h = tt
+
+  pub whole_safe : (path : List ℕ) (said : CallResult) (m n : Machine) → OccursSomehow m (asks.OpenToRead path) said n → IsSafe (after (opening_whole path) said) n
+  whole_safe path (says.Opened number) m n h = open_ready path m n number h
+  whole_safe path said m n h = tt
 
   pub line_safe : (path bytes : List ℕ) (said : CallResult) (m n : Machine) → OccursSomehow m (asks.OpenToAppend path) said n → IsSafe (after (appending path bytes) said) n
   line_safe path bytes (says.Opened number) m n h = append_ready path m n number h

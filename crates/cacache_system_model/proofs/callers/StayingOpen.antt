@@ -4,11 +4,11 @@ use Rattle.std_io.specs.declared.io.kind.ErrorKind.TheVariants as kind
 use Rattle.cacache_core.specs.PathNames.{Names, names_of}
 use Rattle.cacache_store.specs.declared.store.step.Step.TheVariants as steps
 use Rattle.cacache_disk.{specs.{declared.{luck.Luck.TheVariants.{Plain, Fail, Take}, node.Node.TheVariants.{File}}, Tree.{Tree, put}, LedTo.{free}}, proofs.FoundNodes.{free_ok}}
-use Rattle.cacache_system.specs.{declared.call.{SystemCall.{SystemCall}, CallItem.{CallItem}, CallResult.{CallResult}}, Seen.{NumberedTemp, NumberedStep}, ListedNames.{with_slash}, CallsOf.{Stage, opening_folder, following, reading_names, asking_kind, over, only, trying, taking_memory, opening, checking, reading_front, reading_rest, appending, standing as asking_folder, making, confirming, sizing, asking_source, asking_target, asking_end, making_end, resolving, making_fresh, filling, replacing, scrapping, fresh_beside, fresh_number, wants, after, was_interrupted, keeping, preparing, Runs}, AnswersOf.{Hint, no_hint, is_missing, rewrites, persist, first}}
+use Rattle.cacache_system.specs.{declared.call.{SystemCall.{SystemCall}, CallItem.{CallItem}, CallResult.{CallResult}}, Seen.{NumberedTemp, NumberedStep}, ListedNames.{with_slash}, CallsOf.{Stage, opening_folder, following, reading_names, asking_kind, over, only, trying, taking_memory, opening, checking, opening_whole, reading_front, measuring, reading_rest, appending, standing as asking_folder, making, confirming, sizing, asking_source, asking_target, asking_end, making_end, resolving, making_fresh, filling, replacing, scrapping, fresh_beside, fresh_number, wants, after, was_interrupted, keeping, preparing, Runs}, AnswersOf.{Hint, no_hint, is_missing, rewrites, persist, first}}
 use Rattle.cacache_system.specs.declared.call.SystemCall.TheVariants as asks
 use Rattle.cacache_system.specs.declared.call.CallResult.TheVariants as says
 use Rattle.cacache_system_model.specs.{Machine.{under, Machine, OpensIf}, Calls.{OccursSomehow, EachCall}, OneCall.{IsOpenAt}, callers.Opened.{KeepsOpen, IsApart, StillStores, RunsKeepOpen}}
-use Rattle.cacache_system_model.proofs.{callers.{ListCalls.{can_open, IsListing, folder_left, names_left}, CopyTargets.{spelled_left}, OpenCalls.{Moves, place_at, CanRead, keeps_same, keeps_self, IsOpenNumber, occurs_keep, front_left, rest_left, stat_left, readable_on}, UnchangedCalls.{look_left, link_look_left, readied, opens_number}, SafeStages.{IsSafe, cond_safe, checked_safe, front_safe, rest_safe, folder_safe, making_safe, confirming_safe, SafeLater, kept_safe, prepared_safe, file_safe, line_safe, listed_safe, kind_safe, opened_safe_folder, followed_safe, size_safe, source_safe, target_safe, end_safe, made_end_safe, resolved_safe, fresh_safe, filled_safe, replaced_safe}}, memory.Places.{place_led}}
+use Rattle.cacache_system_model.proofs.{callers.{ListCalls.{can_open, IsListing, folder_left, names_left}, CopyTargets.{spelled_left}, OpenCalls.{Moves, place_at, CanRead, keeps_same, keeps_self, IsOpenNumber, occurs_keep, front_left, rest_left, stat_left, readable_on}, UnchangedCalls.{look_left, link_look_left, readied, opens_number}, SafeStages.{IsSafe, cond_safe, checked_safe, front_safe, measured_safe, rest_safe, folder_safe, making_safe, confirming_safe, SafeLater, kept_safe, prepared_safe, file_safe, whole_safe, line_safe, listed_safe, kind_safe, opened_safe_folder, followed_safe, size_safe, source_safe, target_safe, end_safe, made_end_safe, resolved_safe, fresh_safe, filled_safe, replaced_safe}}, memory.Places.{place_led}}
 
 at_call : (a call : SystemCall) (m n : Machine) (said : CallResult) → Some a ≡ Some call → OccursSomehow m call said n → OccursSomehow m a said n
 at_call a call m n said w h = let same : a ≡ call = cc in subst (λ (x : SystemCall). OccursSomehow m x said n) (sym same) h
@@ -56,6 +56,11 @@ module _ (q : Names) where
   goes_safe (checking purpose number) m n call said safe w h =
       let same = stat_left number m n said (safe.0, safe.1) (at_call (asks.StatFile number) call m n said w h) in
       (keeps_self (under q) m n same, subst (λ (x : Machine). IsSafe q (after (checking purpose number) said) x) (sym same) (checked_safe q purpose number said m safe))
+  goes_safe (opening_whole path) m n call said safe w h =
+      let happens = at_call (asks.OpenToRead path) call m n said w h in (occurs_keep (asks.OpenToRead path) q m n said tt happens, whole_safe q path said m n happens)
+  goes_safe (measuring front number) m n call said safe w h =
+      let same = stat_left number m n said (safe.0, safe.1) (at_call (asks.StatFile number) call m n said w h) in
+      (keeps_self (under q) m n same, subst (λ (x : Machine). IsSafe q (after (measuring front number) said) x) (sym same) (measured_safe q front number said m safe))
   goes_safe (reading_front again size number) m n call said safe w h =
       let left = front_left number size m n said safe (at_call (asks.Read number size) call m n said w h) in
       (left.0 (under q), front_safe q again size number said n (readable_on number m n safe left))

@@ -6,7 +6,7 @@ use Rattle.cacache_system_model.specs.bucket.{File.{Event, OpensToAppend, Starts
 -- an append of an entry's line in two parts, with a read between them
 abbrev pub in_parts : Entry → ℕ → List Event
 in_parts e n =
-    OpensToAppend 1 ∷ Starts 1 false e ∷ Shows (take n (line_of e)) ∷ Opens 2
+    OpensToAppend 1 ∷ Starts 1 false e ∷ Opens 2 ∷ Shows (take n (line_of e))
     ∷ Reads 2 (take n (line_of e)) ∷ Ends 2 ∷ Shows (drop n (closed_line false e))
     ∷ Answers 1 (length (closed_line false e)) ∷ []
 

@@ -1,5 +1,5 @@
 //! What a system in memory holds: a disk, and the files that are open.
-ghost use Rattle.std.specs.Prelude.{None};
+ghost use Rattle.std.specs.Prelude.{◌≡◌, ◌+◌, ◌%◌, ◌^◌, None, OnOk};
 ghost use Rattle.cacache_disk.specs.{Tree.{cut}, LedTo.{removable, emptied}};
 ghost use Rattle.cacache_system_model.specs.memory.Files.{Displaces, MovesPath};
 
@@ -27,8 +27,9 @@ impl Memory {
     /// Removes a file or a link.
     #[tactic(auto, using(crate::proofs::memory::Displacing::stays, crate::proofs::memory::Displacing::removable_bad))]
     pub(crate) fn remove_file(&mut self, path: &str) -> Result<(), Stop>
-        ensures { Displaces (removable self.old.disk path.now) (cut self.old.disk) None self.old
-            result self.new }
+        ensures displaces { Displaces (removable self.old.disk path.now) (cut self.old.disk) None
+            self.old result self.new }
+        ensures counts { OnOk result (self.new.marks ≡ (self.old.marks + 1) % 2 ^ 64) }
     {
         let names = place(&self.disk, path)?;
         let files = displaced(
@@ -48,8 +49,9 @@ impl Memory {
     /// Removes an empty folder.
     #[tactic(auto, using(crate::proofs::memory::Displacing::stays, crate::proofs::memory::Displacing::emptied_bad))]
     pub(crate) fn remove_folder(&mut self, path: &str) -> Result<(), Stop>
-        ensures { Displaces (emptied self.old.disk path.now) (cut self.old.disk) None self.old
-            result self.new }
+        ensures displaces { Displaces (emptied self.old.disk path.now) (cut self.old.disk) None
+            self.old result self.new }
+        ensures counts { OnOk result (self.new.marks ≡ (self.old.marks + 1) % 2 ^ 64) }
     {
         let names = place(&self.disk, path)?;
         let files = displaced(
@@ -69,7 +71,8 @@ impl Memory {
     /// Moves a file. A folder or a link isn't moved.
     #[tactic(auto, using(crate::proofs::memory::Displacing::moves_nothing, crate::proofs::memory::Displacing::unmoved))]
     pub(crate) fn rename(&mut self, from: &str, to: &str) -> Result<(), Stop>
-        ensures { MovesPath from.now to.now self.old result self.new }
+        ensures moves { MovesPath from.now to.now self.old result self.new }
+        ensures counts { OnOk result (self.new.marks ≡ (self.old.marks + 1) % 2 ^ 64) }
     {
         let bytes = movable(&self.disk, from)?;
         let old = place(&self.disk, from)?;

@@ -26,6 +26,7 @@ impl MemorySystem {
     pub fn new(alloc: Global) -> Result<MemorySystem, AllocError>
         ensures log { IfOk result (λ system. calls_of system ≡ []) }
         ensures tree { IfOk result (λ system. (machine_of system).tree ≡ bare) }
+        ensures closed { IfOk result (λ system. system.memory.files.items ≡ []) }
     {
         let memory = Memory {
             alloc,

@@ -26,8 +26,8 @@ returns-in-Append-clause-ran g c =
 pub returns-in-ReadAll-clause-ran : goal.returns-in-ReadAll-clause-ran
 returns-in-ReadAll-clause-ran g c =
     λ _. subst (λ step. StepRuns (numbered g.Y.System.number step) (answered_or g.Y.System.number (numbered g.Y.System.number step) c.whole.result) (g.Y.System.calls c.args.self.now.system) (g.Y.System.calls c.read_all.new.self.system)) (sym c.in-ReadAll.is)
-    (arm_run g.Y.System.number (steps.ReadAll c.in-ReadAll.path) (calls.opening calls.to_read c.as_str-in-ReadAll.result.now) says.Bytes (λ b. answers.Bytes b) c.read_all.result c.whole.result (g.Y.System.calls c.args.self.now.system) (g.Y.System.calls c.read_all.new.self.system)
-    c.read_all.ensures.ran (ap (λ p. calls.opening calls.to_read p) c.as_str-in-ReadAll.ensures.same) (λ _. refl) (λ _. refl) c.whole.ensures)
+    (arm_run g.Y.System.number (steps.ReadAll c.in-ReadAll.path) (calls.opening_whole c.as_str-in-ReadAll.result.now) says.Bytes (λ b. answers.Bytes b) c.read_all.result c.whole.result (g.Y.System.calls c.args.self.now.system) (g.Y.System.calls c.read_all.new.self.system)
+    c.read_all.ensures.ran (ap (λ p. calls.opening_whole p) c.as_str-in-ReadAll.ensures.same) (λ _. refl) (λ _. refl) c.whole.ensures)
 
 pub returns-in-Exists-clause-ran : goal.returns-in-Exists-clause-ran
 returns-in-Exists-clause-ran g c =
