@@ -7,6 +7,9 @@ mod Indexes
 mod TreeRuns
 mod Losses
 mod Aging
+mod Weights
 mod Confirmed
+mod KeptKeys
+mod Partings
 mod SparedOnes
 mod TouchedKeys

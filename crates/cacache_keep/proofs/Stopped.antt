@@ -1,6 +1,6 @@
 -- Calls and listings that an error ends.
 -- Calls that were made one after another, and walks, as moves that leave each tree.
-use Rattle.std.proofs.{Common.{◌≡◌, ◌⊎◌, ◌<◌, ◌+◌, ℕ, List, [], ◌∷◌, ◌++◌, Bool, Option, Ok, Err, Result, IfErr, inl, inr, refl, sym, ap, subst, ◌∙◌, map, length, take, drop, get_or, append_assoc, None, Some, append-nil, false, ◌-◌}, lemmas.List.{drop_more, take-append-drop, Elements.{All-append, All-cons, All-map, All-nil}}}
+use Rattle.std.proofs.{Common.{◌≡◌, ◌⊎◌, ◌<◌, ◌+◌, ℕ, List, [], ◌∷◌, ◌++◌, Bool, Option, Ok, Err, Result, IfErr, inl, inr, refl, sym, ap, subst, ◌∙◌, map, length, take, drop, get_or, append_assoc, None, Some, append-nil, ◌-◌}, lemmas.List.{drop_more, take-append-drop, Elements.{All-append, All-cons, All-map, All-nil}}}
 use Rattle.std.specs.{Prelude.{All, IsErrAnd}, List.{AllByRecursion}}
 use Rattle.cacache_core.specs.declared.{errors.{Error.{Error, TheVariants.{IoError, OutOfMemory}}, Fault.{Fault, TheVariants.{NotFound}}}, integrity.digest.Hash.{Hash}}
 use Rattle.cacache_store.specs.declared.store.log.LogItem.{LogItem}

@@ -42,7 +42,7 @@ all_fit key found (e ∷ es) all h = all_fit key (after_entry key found e) es (A
 -- ---- the key's bucket
 
 -- a step that only looks and failed
-failed_keep : (step : PlainStep) (e : Error) (old new : Option (List LogItem)) → ((answer : PlainAnswer) → Look ((step, answer) ∷ [])) → FailsAt step e old new → Keeps old new
+pub failed_keep : (step : PlainStep) (e : Error) (old new : Option (List LogItem)) → ((answer : PlainAnswer) → Look ((step, answer) ∷ [])) → FailsAt step e old new → Keeps old new
 failed_keep step (IoError fault message) old new looks does = gained old new ((step, answers.Failed fault) ∷ []) does (looks (answers.Failed fault))
 failed_keep step OutOfMemory old new looks (inl same) = record { moves = []; gains = gains_none old new same; stays = λ t. refl }
 failed_keep step OutOfMemory old new looks (inr (fault, does)) = gained old new ((step, answers.Failed fault) ∷ []) does (looks (answers.Failed fault))

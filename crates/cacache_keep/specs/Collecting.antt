@@ -3,7 +3,7 @@ use Rattle.std.specs.Prelude.{◌≡◌, ◌⊎◌, ◌↔◌, ◌+◌, ◌-◌,
 use Rattle.cacache_core.specs.{declared.{errors.Error.{Error, TheVariants.{OutOfMemory}}, integrity.digest.Hash.{Hash}}, Integrity.{address}}
 use Rattle.cacache_store.specs.declared.store.log.LogItem.{LogItem}
 use Rattle.cacache_calls.specs.State.{Site}
-use Rattle.cacache_keep.specs.{declared.{checking.OddLines.{OddLines}, dropping.Tally.{Tally}}, Calls.{AreOthers}, Checking.{Allows, RefusesOdd, odd_in}, Dropping.{DropsAll, StopsDropping}, Keeping.{Chooses, StopsEarly}, Syncing.{StopsIndexSync, SyncsIndex}}
+use Rattle.cacache_keep.specs.{declared.{checking.OddLines.{OddLines}, collecting.Collection.{Collection}, dropping.Tally.{Tally}}, Calls.{AreOthers}, Checking.{Allows, RefusesOdd, odd_in}, Dropping.{DropsAll, StopsDropping}, Keeping.{Chooses, StopsEarly}, Syncing.{StopsIndexSync, SyncsIndex}}
 
 -- these are the ones of the addresses that no root has, in their order
 abbrev pub SparesRoots : List (List Hash) → List (List Hash) → List (List Hash) → Type 0
@@ -37,6 +37,15 @@ pub record CollectsBy
   pub synced : Option (List LogItem)
   pub syncing : SyncsIndex told.durable site.cache chosen synced
   pub dropping : DropsAll limit site.cache rest t synced new
+
+-- the fates that a collection counts
+abbrev pub tally_of : Collection → Tally
+tally_of c = record { dropped = c.dropped; young = c.young; gone = c.gone }
+
+-- so it is, and this tells it
+abbrev pub CollectsAs :
+    Told → Option ℕ → Site → Collection → Option (List LogItem) → Option (List LogItem) → Type 0
+CollectsAs told limit site c old new = CollectsBy told limit site c.kept (tally_of c) old new
 
 -- ---- errors
 

@@ -11,6 +11,11 @@ LimitedBy moments None old new limit = (new ≡ old) × (limit ≡ None)
 LimitedBy moments (Some grace) old new limit =
     (moment : ℕ) × AsksMoment moments old new moment × (limit ≡ Some (moment - grace))
 
+-- so it is, and the clock may be asked again later
+abbrev pub LimitedFirst : {C : Type 0} → (C → Option (List ℕ)) → Option ℕ → C → Option ℕ → Type 0
+LimitedFirst {C} moments grace old limit =
+    (next : C) × LimitedBy moments grace old next limit
+
 -- a file that changed before the limit goes; one whose change isn't known stays
 abbrev pub fate_by : ℕ → Result ℕ Fault → Fate
 fate_by limit (Ok stamp) = if nat_le limit stamp then Young else Dropped

@@ -23,7 +23,9 @@ pub mod Told
 pub mod Losses
 pub mod Later
 pub mod Limits
+pub mod Weighing
 pub mod Confirming
+pub mod Parting
 pub mod Pruning
 pub mod Sparing
 pub mod Touching

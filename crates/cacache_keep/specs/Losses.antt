@@ -9,7 +9,7 @@ use Rattle.cacache_calls.specs.Runs.{Gains, Moves}
 use Rattle.cacache_laws.specs.{Sequence.{plain_moves}, trees.{Compacting.{compact_text}, Mending.{found_in}}}
 use Rattle.cacache_value.specs.{Placed.{Placed}, Traces.{Move}}
 use Rattle.cacache_loss.specs.{CalmMoves.{AreCalm}, Fixing.{Fixed}, Loss.{Loss}, LossLaws.{BeginsWith, FindsOrLater}, LostValues.{LeftOf}, Moments.{EachMove, Moment, after}, Syncs.{Leaves}}
-use Rattle.cacache_keep.specs.{Compacting.{CompactsCache, StopsCompacting}, Rewriting.{syncs_first}}
+use Rattle.cacache_keep.specs.Compacting.{CompactsCache, StopsCompacting}
 
 -- the moment after these moves, from a tree that had so much fixed
 abbrev pub moment_after : Tree → Fixed → Moves → Moment
@@ -136,7 +136,7 @@ CompactsSo durable cache old new =
     ⊎ ((e : Error) × StopsCompacting durable cache e old new)
 
 -- so it is in what a loss leaves after any of its moves, if the bucket was fixed before, as it is
--- after a durable put, and the compaction is durable or the bytes end with a line feed
+-- after a durable put
 abbrev pub CompactionsSpare : Type 0
 CompactionsSpare =
     (durable : Bool) (cache : List ℕ) (home : Names) (first rest : Moves) (fixed : Fixed)
@@ -144,6 +144,6 @@ CompactionsSpare =
     → home_of cache ≡ Some home → IsLog new → CompactsSo durable cache (Some old) (Some new)
     → Gains (Some old) (Some new) (first ++ rest)
     → look (tree_of old) (home ++ bucket_names_of digest) ≡ Some (File bytes)
-    → IsFixedAt fixed home (bucket_names_of digest) → syncs_first durable bytes ≡ true
+    → IsFixedAt fixed home (bucket_names_of digest)
     → LeftOf home (moment_after (tree_of old) fixed first) loss left
     → KeepsEither durable home digest bytes (tree_of old) left

@@ -1,12 +1,11 @@
 -- How a file is written anew, over any store.
-use Rattle.std.specs.{Prelude.{◌≡◌, ◌⊎◌, ℕ, List, [], ◌∷◌, Bool, true, false, ◌||◌, Option, drop, unwrap_or}, Path.{path_parent}}
+use Rattle.std.specs.{Prelude.{◌≡◌, ◌⊎◌, ℕ, List, [], ◌∷◌, Bool, true, false, Option, drop, unwrap_or}, Path.{path_parent}}
 use Rattle.cacache_core.specs.declared.errors.Error.{Error}
 use Rattle.cacache_core.specs.declared.errors.Fault.TheVariants as faults
 use Rattle.cacache_store.specs.declared.store.answer.Answer.TheVariants as answers
 use Rattle.cacache_store.specs.declared.store.{log.LogItem.{LogItem}, plain.PlainTemp.{PlainTemp}}
 use Rattle.cacache_store.specs.declared.store.step.Step.TheVariants as steps
 use Rattle.cacache_calls.specs.{Common.{fails}, Runs.{EndsAs, Gains, Moves}, SingleSteps.{Does, FailsAt}, StepPaths.{temp_folder, temp_path}}
-use Rattle.cacache_laws.specs.trees.Compacting.{is_closed}
 
 -- ---- the temporary file
 
@@ -32,20 +31,9 @@ MakesTemp cache file old new =
 
 -- ---- syncs
 
--- whether the temporary file is synced before it is moved: if the rewrite is durable, or the bytes
--- end with a line feed, as a durable put leaves them
-abbrev pub syncs_first : Bool → List ℕ → Bool
-syncs_first durable bytes = durable || is_closed bytes
-
 -- the folder that holds what is at the path
 abbrev pub folder_of : List ℕ → List ℕ
 folder_of path = unwrap_or (path_parent path) path
-
--- the temporary file was synced, if it was to be
-abbrev pub SyncsTemp :
-    Bool → PlainTemp → Option (List LogItem) → Option (List LogItem) → Type 0
-SyncsTemp true file old new = Does (steps.SyncTemp file) (answers.Synced file) old new
-SyncsTemp false file old new = new ≡ old
 
 -- the folder that holds the path was synced, if the rewrite is durable
 abbrev pub SyncsFolder :
@@ -61,8 +49,8 @@ SyncsBucket true path old new =
     × SyncsFolder true path synced new
 SyncsBucket false path old new = new ≡ old
 
--- the bytes were written to a temporary file, and that was moved to the path; the file was synced
--- before the move if it was to be, and the path's folder after it if the rewrite is durable
+-- the bytes were written to a temporary file, that was synced, and it was moved to the path; the
+-- path's folder was synced after that if the rewrite is durable
 pub record Rewrites
     (durable : Bool) (cache path bytes : List ℕ) (old new : Option (List LogItem)) : Type 0 where
   pub file : PlainTemp
@@ -72,7 +60,7 @@ pub record Rewrites
   pub written : Option (List LogItem)
   pub writing : Took file bytes full [] made written
   pub synced : Option (List LogItem)
-  pub syncing : SyncsTemp (syncs_first durable bytes) full written synced
+  pub syncing : Does (steps.SyncTemp full) (answers.Synced full) written synced
   pub moved : Option (List LogItem)
   pub moving : Does (steps.Persist full path) answers.Done synced moved
   pub securing : SyncsFolder durable path moved new
@@ -102,13 +90,7 @@ StopsMaking cache e old new =
     × Does (steps.MakeDirs (temp_folder cache)) answers.Done old made
     × FailsAt (steps.CreateTemp (temp_path cache number)) e made new)
 
--- it ended the sync of the temporary file, which is made only if it was to be synced
-abbrev pub StopsSyncing :
-    Bool → PlainTemp → Error → Option (List LogItem) → Option (List LogItem) → Type 0
-StopsSyncing true file e old new = FailsAt (steps.SyncTemp file) e old new
-StopsSyncing false file e old new = ⊥
-
--- so it did with the sync of the path's folder
+-- it ended the sync of the path's folder
 abbrev pub StopsSecuring :
     Bool → List ℕ → Error → Option (List LogItem) → Option (List LogItem) → Type 0
 StopsSecuring true path e old new = FailsAt (steps.SyncDir (folder_of path)) e old new
@@ -126,11 +108,11 @@ StopsSyncingBucket false path e old new = ⊥
 -- the file that has all of the bytes wasn't synced; or it was, and wasn't moved; or it was moved, and
 -- the path's folder wasn't synced
 abbrev pub StopsMoving :
-    Bool → PlainTemp → List ℕ → List ℕ → Error → Option (List LogItem) → Option (List LogItem)
-    → Type 0
-StopsMoving durable full path bytes e old new =
-    StopsSyncing (syncs_first durable bytes) full e old new
-    ⊎ ((synced : Option (List LogItem)) × SyncsTemp (syncs_first durable bytes) full old synced
+    Bool → PlainTemp → List ℕ → Error → Option (List LogItem) → Option (List LogItem) → Type 0
+StopsMoving durable full path e old new =
+    FailsAt (steps.SyncTemp full) e old new
+    ⊎ ((synced : Option (List LogItem))
+    × Does (steps.SyncTemp full) (answers.Synced full) old synced
     × (FailsAt (steps.Persist full path) e synced new
     ⊎ ((moved : Option (List LogItem)) × Does (steps.Persist full path) answers.Done synced moved
     × StopsSecuring durable path e moved new)))
@@ -143,4 +125,4 @@ StopsRewriting durable cache path bytes e old new =
     ⊎ ((file : PlainTemp) × (made : Option (List LogItem)) × MakesTemp cache file old made
     × (StopsWriting file bytes e made new
     ⊎ ((full : PlainTemp) × (written : Option (List LogItem))
-    × Took file bytes full [] made written × StopsMoving durable full path bytes e written new)))
+    × Took file bytes full [] made written × StopsMoving durable full path e written new)))

@@ -1,7 +1,7 @@
 //! The calls that remove what no entry has.
 ghost use Rattle.std.specs.Prelude.{◌≡◌, ℕ, [], None, Some, Option, IfOk, IfErr, false};
 ghost use Rattle.cacache_jobs.specs.{Environment.{KeepsRest}, Sites.{site_of}};
-ghost use Rattle.cacache_keep.specs.{declared.checking.OddLines.TheVariants.{Refuse}, Collecting.{CollectsBy, StopsCollectingBy, told_by}, Grace.{LimitedBy}, Keeping.{CollectsWith, StopsCollecting}};
+ghost use Rattle.cacache_keep.specs.{declared.checking.OddLines.TheVariants.{Refuse}, Collecting.{CollectsAs, StopsCollectingBy, told_by}, Grace.{LimitedBy}, Keeping.{CollectsWith, StopsCollecting}};
 
 use crate::checking::{OddLines, check};
 use crate::choosing::{Chosen, choose};
@@ -24,6 +24,29 @@ pub struct Collected {
     pub dropped: Vec<Integrity>,
 }
 
+/// Collects a cache as `collect_with` does, and leaves the walk open.
+pub(crate) fn collect_open<S: Store, C: Clock, N: Names>(
+    env: &mut Env<S, C, N>,
+    cache: &str,
+    odd: OddLines,
+) -> Result<Collected>
+    ensures collects { IfOk result (λ c. CollectsWith odd (site_of cache.now env.old.base 0)
+        c.kept c.dropped.items (S.log env.old.store) (S.log env.new.store)) }
+    ensures stops { IfErr result (λ e. StopsCollecting odd (site_of cache.now env.old.base 0) e
+        (S.log env.old.store) (S.log env.new.store)) }
+    ensures rest { KeepsRest env.old env.new }
+{
+    let chosen = choose(env, cache)?;
+    check(env.alloc, odd, chosen.odd.as_slice())?;
+    let Chosen {
+        kept,
+        dropped,
+        odd: _,
+    } = chosen;
+    remove_each(env, cache, dropped.as_slice())?;
+    Ok(Collected { kept, dropped })
+}
+
 /// Collects a cache as `collect` does, with the choice what is done about odd lines in its index. With `OddLines::Ignore`
 /// a content that only such a line names is removed, though another reader may need it.
 ///
@@ -41,15 +64,9 @@ pub fn collect_with<S: Store, C: Clock, N: Names>(
     ensures names { env.new.names ≡ env.old.names }
     ensures base { env.new.base ≡ env.old.base }
 {
-    let chosen = choose(env, cache)?;
-    check(env.alloc, odd, chosen.odd.as_slice())?;
-    let Chosen {
-        kept,
-        dropped,
-        odd: _,
-    } = chosen;
-    remove_each(env, cache, dropped.as_slice())?;
-    Ok(Collected { kept, dropped })
+    let answer = collect_open(env, cache, odd);
+    env.store.end_walks();
+    answer
 }
 
 /// Removes each content of a cache that is the address of no entry. If one is a link, the link is removed and its
@@ -94,27 +111,26 @@ pub struct Collection {
     pub gone: u64,
 }
 
-/// How a cache is collected: which contents stay beside those of entries, and what is synced. Contracts see the options.
+/// How a cache is collected, also after a pruning: which contents stay beside those of entries, and what is synced. Contracts
+/// see the options.
 #[derive(Clone, Copy)]
 pub struct CollectOpts<'a> {
     odd: OddLines,
-    grace: Option<u64>,
+    pub(crate) grace: Option<u64>,
     keep: &'a [Integrity],
-    durable: bool,
+    pub(crate) durable: bool,
 }
 
 /// Collects a cache with these options, and spares the contents that changed at the limit or later.
-fn collect_old<S: Stamps, C: Clock, N: Names>(
+pub(crate) fn collect_old<S: Stamps, C: Clock, N: Names>(
     env: &mut Env<S, C, N>,
     opts: CollectOpts<'_>,
     limit: Option<u64>,
     cache: &str,
 ) -> Result<Collection>
-    ensures collects { IfOk result (λ c. CollectsBy
+    ensures collects { IfOk result (λ c. CollectsAs
         (told_by opts.entry.odd opts.entry.keep.now opts.entry.durable) limit
-        (site_of cache.now env.old.base 0) c.kept
-        (record { dropped = c.dropped; young = c.young; gone = c.gone })
-        (S.log env.old.store) (S.log env.new.store)) }
+        (site_of cache.now env.old.base 0) c (S.log env.old.store) (S.log env.new.store)) }
     ensures stops { IfErr result (λ e. StopsCollectingBy
         (told_by opts.entry.odd opts.entry.keep.now opts.entry.durable) limit
         (site_of cache.now env.old.base 0) e
@@ -233,9 +249,8 @@ impl<'a> CollectOpts<'a> {
     ) -> Result<Collection>
         ensures collects { IfOk result (λ c. (limit : Option ℕ)
             × LimitedBy C.given self.entry.grace env.old.clock env.new.clock limit
-            × CollectsBy (told_by self.entry.odd self.entry.keep.now self.entry.durable)
-            limit (site_of cache.now env.old.base 0) c.kept
-            (record { dropped = c.dropped; young = c.young; gone = c.gone })
+            × CollectsAs (told_by self.entry.odd self.entry.keep.now self.entry.durable)
+            limit (site_of cache.now env.old.base 0) c
             (S.log env.old.store) (S.log env.new.store)) }
         ensures stops { IfErr result (λ e. (limit : Option ℕ)
             × LimitedBy C.given self.entry.grace env.old.clock env.new.clock limit
@@ -247,7 +262,9 @@ impl<'a> CollectOpts<'a> {
         ensures base { env.new.base ≡ env.old.base }
     {
         let limit = limit_by(&mut env.clock, self.grace);
-        collect_old(env, self, limit, cache)
+        let answer = collect_old(env, self, limit, cache);
+        env.store.end_walks();
+        answer
     }
 }
 

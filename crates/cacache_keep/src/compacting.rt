@@ -60,8 +60,8 @@ fn compact_each<S: Store, C: Clock, N: Names>(
     Ok(done)
 }
 
-/// Compacts a cache, durably or not.
-fn compact_all<S: Store, C: Clock, N: Names>(
+/// Compacts a cache, durably or not, and leaves the walk open.
+fn compact_open<S: Store, C: Clock, N: Names>(
     env: &mut Env<S, C, N>,
     durable: bool,
     cache: &str,
@@ -79,6 +79,24 @@ fn compact_all<S: Store, C: Clock, N: Names>(
     Ok(done)
 }
 
+/// Compacts a cache, durably or not.
+fn compact_all<S: Store, C: Clock, N: Names>(
+    env: &mut Env<S, C, N>,
+    durable: bool,
+    cache: &str,
+) -> Result<Compacted>
+    ensures compacts { IfOk result (λ c. CompactsCache durable cache.now c.buckets c.bytes
+        (S.log env.old.store) (S.log env.new.store)) }
+    ensures stops { IfErr result (λ e. StopsCompacting durable cache.now e
+        (S.log env.old.store) (S.log env.new.store)) }
+    ensures clock { env.new.clock ≡ env.old.clock }
+    ensures base { env.new.base ≡ env.old.base }
+{
+    let answer = compact_open(env, durable, cache);
+    env.store.end_walks();
+    answer
+}
+
 /// Writes each bucket of a cache's index anew, without lines that nobody needs. A line lies between line feeds and
 /// begins with the right digest of its text. These lines stay, in their order, byte for byte:
 ///
@@ -91,10 +109,9 @@ fn compact_all<S: Store, C: Clock, N: Names>(
 /// would stay as it is isn't written.
 ///
 /// A bucket is a file of the index two folders down, whose path has the names that a key's digest gives. All else
-/// there stays, a link in a bucket's place too. The new bytes are written to a temporary file, which
-/// is moved over the bucket: whatever fails, a bucket has its old bytes or its new ones. If the bucket ends with a line
-/// feed, as a durable put leaves it, the new bytes are synced before the move, so that a loss of power leaves one or
-/// the other. Nothing else is synced, unless that is asked for by `CompactOpts::durable`.
+/// there stays, a link in a bucket's place too. The new bytes are written to a temporary file, which is synced and moved
+/// over the bucket: whatever fails, a bucket has its old bytes or its new ones, and a loss of power leaves one or the
+/// other of a bucket that was synced. Nothing else is synced, unless that is asked for by `CompactOpts::durable`.
 ///
 /// Over real folders a rewritten bucket keeps its mode and its owner. If the owner can't be kept, the call ends with an
 /// error that names the bucket, which stays as it was.
@@ -125,7 +142,7 @@ pub struct CompactOpts {
 }
 
 impl CompactOpts {
-    /// Blank options: only the new bytes of buckets that end with a line feed are synced.
+    /// Blank options: only new bytes are synced.
     pub fn new() -> CompactOpts
         ensures { result.durable ≡ false }
     {
@@ -133,8 +150,7 @@ impl CompactOpts {
     }
 
     /// With the choice of whether what a compaction leaves is to outlast a loss of power. A durable one gives each
-    /// bucket a last line feed. It syncs each bucket's new bytes before they are moved over it, and its folder after
-    /// that. It also syncs a bucket that stays as it is, and its folder. At the end it syncs the folders above those,
+    /// bucket a last line feed. It syncs a bucket's folder after the move. It also syncs a bucket that stays as it is, and its folder. At the end it syncs the folders above those,
     /// once each: the ones in the index, the index and the cache.
     pub fn durable(self, yes: bool) -> CompactOpts
         ensures { result.durable ≡ yes }

@@ -20,7 +20,7 @@ fn astray(alloc: Global, key: &str) -> std::result::Result<Text, AllocError> {
 }
 
 /// Whether what a lookup found is this entry of the index: it has the same moment, size and content.
-fn is_led(found: Option<Metadata>, entry: &Metadata) -> bool
+pub(crate) fn is_led(found: Option<Metadata>, entry: &Metadata) -> bool
     ensures { result ≡ is_led_of (found_view entry.now) (option_map found_view found) }
 {
     match found {

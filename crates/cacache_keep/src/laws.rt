@@ -23,9 +23,8 @@ use cacache_disk::memory::MemStore;
 /// If each thing lies in its place, and later steps of calls remove, link and export nothing, each later loss leaves a
 /// bucket that begins with these bytes: a lookup there finds what it found, or what a later entry answers.
 ///
-/// If a bucket was fixed before, a loss after any step of a compaction leaves it with exactly its old bytes or its
-/// compacted ones, also if an error ends the call. So it is of each bucket if the compaction is durable, and otherwise
-/// of one that ends with a line feed, as a durable put leaves it.
+/// If a bucket was fixed before, as a durable put leaves it, a loss after any step of a compaction leaves it with exactly
+/// its old bytes or its compacted ones, also if an error ends the call.
 ///
 /// If links lead out of the cache, lookups, reads by key and listings answer up to the next insertion as they
 /// might have without the collection: calls that look may come in between, and whatever else leaves the tree, removals that are

@@ -1,7 +1,6 @@
 //! What is damaged or missing in a cache, and the removal of contents that no entry has.
 //!
-//! A store of real folders goes on holding the folders of these calls open, eight at most, until a listing or a clearing ends.
-//! A caller whose cache may be removed and made anew meanwhile calls `env.store.end_walks()` after them.
+//! A store of real folders holds the folders of a call open, eight at most. Each call ends its walk when it is over.
 #![tactic(auto)]
 
 mod asking;
@@ -23,6 +22,7 @@ mod lines;
 mod live;
 mod missing;
 mod odd;
+mod parting;
 mod planning;
 mod pruning;
 mod reading;
@@ -38,13 +38,14 @@ mod touched;
 mod touching;
 mod verifying;
 mod walking;
+mod weighing;
 
 pub use checking::OddLines;
 pub use collecting::{CollectOpts, Collected, Collection, collect, collect_with};
 pub use compacting::{CompactOpts, Compacted, compact};
 pub use later::later_laws;
 pub use laws::keep_laws;
-pub use limits::{Choice, Limits};
+pub use limits::Limits;
 pub use planning::{Planned, Unused, plan};
 pub use pruning::{PrunePlan, Pruned, plan_prune, prune};
 pub use repairing::{Repaired, repair, repair_with};

@@ -20,6 +20,15 @@ pub(crate) struct Decided {
     finds: bool,
 }
 
+impl Decided {
+    /// Whether it is of the key.
+    pub(crate) fn is_of(&self, key: &str) -> bool
+        ensures { result ≡ bytes_eq (decision_view self.now).0 key.now }
+    {
+        self.entry.key.as_str() == key
+    }
+}
+
 /// A line of a bucket, and what it decides. An odd line decides nothing.
 #[derive(Drop)]
 struct Line {
@@ -222,7 +231,7 @@ fn text_of_last(alloc: Global, last: Vec<&Line>) -> std::result::Result<Vec<u8>,
 }
 
 /// Whether bytes end with a line feed.
-pub(crate) fn is_closed(bytes: &[u8]) -> bool
+fn is_closed(bytes: &[u8]) -> bool
     ensures { result ≡ is_closed_by bytes.now }
 {
     match bytes.split_last() {

@@ -1,10 +1,10 @@
-//! Whether a bucket has an odd line, which decides nothing for a lookup.
+//! Whether a bucket has an odd line, which decides nothing for a lookup, or a line of another key.
 ghost use Rattle.std.specs.{Prelude.{◌≡◌, ◌≤◌, ◌∷◌, [], IfOk, IfErr, length, true}, List.{list_any}, Option.{option_to_list}};
 ghost use Rattle.cacache_core.specs.declared.errors.Error.TheVariants.{OutOfMemory};
 ghost use Rattle.cacache_entry.specs.Bucket.{cut};
 ghost use Rattle.cacache_calls.specs.Walking.{items_in};
 ghost use Rattle.cacache_laws.specs.trees.Compacting.{is_odd as is_odd_line, line_of_piece, lines_of as lines_in};
-ghost use Rattle.cacache_keep.specs.Checking.{has_odd as has_odd_line};
+ghost use Rattle.cacache_keep.specs.{Checking.{has_odd as has_odd_line}, Parting.{has_other as has_other_line, is_other as is_other_line}};
 
 use crate::lines::{decided_in, first, is_line, without_cr};
 use cacache_core::errors::Result;
@@ -34,6 +34,34 @@ pub(crate) fn has_odd(alloc: Global, bytes: &[u8]) -> Result<bool>
         rest = &rest[at + 1..];
     }
     is_odd(alloc, rest)
+}
+
+/// Whether a piece is a line that is odd or decides another key.
+fn is_other(alloc: Global, piece: &[u8], key: &str) -> Result<bool>
+    requires { cut 10 piece.now ≡ piece.now ∷ [] }
+    ensures other { IfOk result (λ other. other
+        ≡ list_any (is_other_line key.now) (option_to_list (line_of_piece piece.now))) }
+    ensures memory { IfErr result (λ e. e ≡ OutOfMemory) }
+{
+    match decided_in(alloc, piece)? {
+        Some(decided) => Ok(!decided.is_of(key)),
+        None => Ok(is_line(piece)),
+    }
+}
+
+/// Whether a bucket has a line that is odd or decides another key.
+pub(crate) fn has_other(alloc: Global, bytes: &[u8], key: &str) -> Result<bool>
+    ensures other { IfOk result (λ other. other ≡ has_other_line key.now bytes.now) }
+    ensures memory { IfErr result (λ e. e ≡ OutOfMemory) }
+{
+    let mut rest = bytes;
+    while let Some(at) = first(rest, b'\n') {
+        if is_other(alloc, &rest[..at], key)? {
+            return Ok(true);
+        }
+        rest = &rest[at + 1..];
+    }
+    is_other(alloc, rest, key)
 }
 
 /// One if a piece has a TAB, as each line has, and otherwise none.

@@ -1,6 +1,6 @@
 //! The call that says what a collection would remove.
 ghost use Rattle.std.specs.Prelude.{◌≡◌, IfOk, IfErr, map};
-ghost use Rattle.cacache_jobs.specs.Sites.{site_of};
+ghost use Rattle.cacache_jobs.specs.{Environment.{KeepsRest}, Sites.{site_of}};
 ghost use Rattle.cacache_keep.specs.{Planning.{HidesSize, StopsPlanning, StopsTelling, TellsSize, TellsSizes, sized_of}, Told.{PlansAs}};
 
 use crate::choosing::{Chosen, choose};
@@ -46,7 +46,12 @@ fn hidden(
 }
 
 /// How many bytes the content has.
-fn size_of<S: Store>(alloc: Global, store: &mut S, cache: &str, address: &Integrity) -> Result<u64>
+pub(crate) fn size_of<S: Store>(
+    alloc: Global,
+    store: &mut S,
+    cache: &str,
+    address: &Integrity,
+) -> Result<u64>
     ensures tells { IfOk result
         (λ size. TellsSize cache.now address.now size (S.log store.old) (S.log store.new)) }
     ensures stops { IfErr result
@@ -85,6 +90,19 @@ fn sizes_of<S: Store>(
     Ok(unused)
 }
 
+/// Plans a collection as `plan` does, and leaves the walk open.
+fn plan_open<S: Store, C: Clock, N: Names>(env: &mut Env<S, C, N>, cache: &str) -> Result<Planned>
+    ensures plans { IfOk result (λ p. PlansAs (site_of cache.now env.old.base 0) p
+        (S.log env.old.store) (S.log env.new.store)) }
+    ensures stops { IfErr result (λ e. StopsPlanning (site_of cache.now env.old.base 0) e
+        (S.log env.old.store) (S.log env.new.store)) }
+    ensures rest { KeepsRest env.old env.new }
+{
+    let Chosen { kept, dropped, odd } = choose(env, cache)?;
+    let unused = sizes_of(env.alloc, &mut env.store, cache, dropped)?;
+    Ok(Planned { kept, unused, odd })
+}
+
 /// Tells which contents a `collect` would remove, each with its bytes, and how many it would leave.
 /// Nothing changes. What a later `collect` removes is the same while nobody writes in between. It ends with an error if a
 /// bucket has a line that this crate can't read and another reader may: the plan names these buckets.
@@ -100,7 +118,7 @@ pub fn plan<S: Store, C: Clock, N: Names>(env: &mut Env<S, C, N>, cache: &str) -
     ensures names { env.new.names ≡ env.old.names }
     ensures base { env.new.base ≡ env.old.base }
 {
-    let Chosen { kept, dropped, odd } = choose(env, cache)?;
-    let unused = sizes_of(env.alloc, &mut env.store, cache, dropped)?;
-    Ok(Planned { kept, unused, odd })
+    let answer = plan_open(env, cache);
+    env.store.end_walks();
+    answer
 }

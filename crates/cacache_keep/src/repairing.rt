@@ -54,6 +54,25 @@ fn repair_from<S: Store, C: Clock, N: Names>(
     Ok(Repaired { damaged, dangling })
 }
 
+/// Repairs a cache as `repair_with` does, and leaves the walk open.
+fn repair_open<S: Store, C: Clock, N: Names>(
+    env: &mut Env<S, C, N>,
+    cache: &str,
+    odd: OddLines,
+) -> Result<Repaired>
+    ensures repairs { IfOk result (λ r. RepairsAs odd (site_of cache.now env.old.base 0) r
+        (S.log env.old.store) (S.log env.new.store)) }
+    ensures stops { IfErr result (λ e. StopsRepairing odd (site_of cache.now env.old.base 0) e
+        (S.log env.old.store) (S.log env.new.store)) }
+    ensures names { env.new.names ≡ env.old.names }
+    ensures base { env.new.base ≡ env.old.base }
+{
+    let index = read_index(env.alloc, &mut env.store, cache)?;
+    check(env.alloc, odd, index.odd.as_slice())?;
+    let Index { entries, odd: _ } = index;
+    repair_from(env, cache, entries)
+}
+
 /// Repairs a cache as `repair` does, with the choice of what to do about odd lines in its index. With
 /// `OddLines::Ignore` a key may get a tombstone that hides such a line from another reader.
 ///
@@ -70,10 +89,9 @@ pub fn repair_with<S: Store, C: Clock, N: Names>(
     ensures names { env.new.names ≡ env.old.names }
     ensures base { env.new.base ≡ env.old.base }
 {
-    let index = read_index(env.alloc, &mut env.store, cache)?;
-    check(env.alloc, odd, index.odd.as_slice())?;
-    let Index { entries, odd: _ } = index;
-    repair_from(env, cache, entries)
+    let answer = repair_open(env, cache, odd);
+    env.store.end_walks();
+    answer
 }
 
 /// Removes each damaged content of a cache, and adds a tombstone for each key that leads to an entry whose content is

@@ -1,12 +1,11 @@
-//! A file that is written anew: a temporary file is moved over it. It is synced if that is asked for, and so is one
-//! that stays as it is. Bytes that end with a line feed are synced before the move in any case.
+//! A file that is written anew: a temporary file is synced and moved over it. Its folder is synced if that is asked for,
+//! and so is a file that stays as it is.
 ghost use Rattle.std.specs.Prelude.{◌≡◌, [], IfOk, IfErr, OnOk};
 ghost use Rattle.cacache_store.specs.declared.store.answer.Answer.TheVariants as answers;
 ghost use Rattle.cacache_store.specs.declared.store.step.Step.TheVariants as steps;
 ghost use Rattle.cacache_calls.specs.{SingleSteps.{Does, FailsAt}, StepPaths.{temp_folder as temp_folder_of, temp_path as temp_path_of}};
-ghost use Rattle.cacache_keep.specs.Rewriting.{MakesTemp, Rewrites, StopsMaking, StopsRewriting, StopsSecuring, StopsSyncing, StopsSyncingBucket, StopsWriting, SyncsBucket, SyncsFolder, SyncsTemp, Took, folder_of as folder_of_path, syncs_first as is_synced_first};
+ghost use Rattle.cacache_keep.specs.Rewriting.{MakesTemp, Rewrites, StopsMaking, StopsRewriting, StopsSecuring, StopsSyncingBucket, StopsWriting, SyncsBucket, SyncsFolder, Took, folder_of as folder_of_path};
 
-use crate::lines::is_closed;
 use cacache_calls::Refusal;
 use cacache_calls::answers::{Written, done_of, synced_of, written_of};
 use cacache_core::bytes::Bytes;
@@ -100,31 +99,14 @@ fn unsynced(alloc: Global, path: &Text) -> std::result::Result<Text, AllocError>
     Ok(Text::new(format!(in alloc; "Failed to sync the new bytes of bucket {path}")?))
 }
 
-/// Whether bytes are synced before they are moved over a bucket. A durable put ends its line with a line feed, and a move
-/// of unsynced bytes may take that line.
-fn syncs_first(durable: bool, bytes: &Bytes) -> bool
-    ensures { result ≡ is_synced_first durable bytes.now }
-{
-    durable || is_closed(bytes.as_slice())
-}
-
-/// Syncs the temporary file for the path, if it is to be synced.
-fn sync_temp<S: Store>(
-    alloc: Global,
-    store: &mut S,
-    syncs: bool,
-    file: S::Temp,
-    path: &Text,
-) -> Result<S::Temp>
+/// Syncs the temporary file for the path. A move of unsynced bytes may take a line that was put durably.
+fn sync_temp<S: Store>(alloc: Global, store: &mut S, file: S::Temp, path: &Text) -> Result<S::Temp>
     ensures same { IfOk result (λ synced. S.Temp.seen synced ≡ S.Temp.seen file) }
-    ensures syncs { OnOk result
-        (SyncsTemp syncs (S.Temp.seen file) (S.log store.old) (S.log store.new)) }
-    ensures stops { IfErr result (λ e. StopsSyncing syncs (S.Temp.seen file) e
+    ensures syncs { OnOk result (Does (steps.SyncTemp (S.Temp.seen file))
+        (answers.Synced (S.Temp.seen file)) (S.log store.old) (S.log store.new)) }
+    ensures stops { IfErr result (λ e. FailsAt (steps.SyncTemp (S.Temp.seen file)) e
         (S.log store.old) (S.log store.new)) }
 {
-    if !syncs {
-        return Ok(file);
-    }
     match synced_of(store.step(Step::SyncTemp(file))) {
         Ok(file) => Ok(file),
         Err(refusal) => Err(refused(refusal, unsynced(alloc, path))),
@@ -175,7 +157,12 @@ fn sync_folder<S: Store>(alloc: Global, store: &mut S, path: &Text) -> Result<()
 }
 
 /// The same, if that is asked for.
-fn secure<S: Store>(alloc: Global, store: &mut S, durable: bool, path: &Text) -> Result<()>
+pub(crate) fn secure<S: Store>(
+    alloc: Global,
+    store: &mut S,
+    durable: bool,
+    path: &Text,
+) -> Result<()>
     ensures syncs { OnOk result
         (SyncsFolder durable path.now (S.log store.old) (S.log store.new)) }
     ensures stops { IfErr result
@@ -225,9 +212,8 @@ pub(crate) fn sync_bucket<S: Store>(
     sync_folder(alloc, store, path)
 }
 
-/// Writes the bytes to a temporary file of this number and moves that to the path. A file there is
-/// whole at any time: it has its old bytes, or these. The temporary file is synced before the move if that
-/// is durable or the bytes end with a line feed. If it is durable, the path's folder is synced after it.
+/// Writes the bytes to a temporary file of this number, syncs it, and moves it to the path. A file there is whole at any
+/// time: it has its old bytes, or these. If that is durable, the path's folder is synced after the move.
 pub(crate) fn rewrite<S: Store>(
     alloc: Global,
     store: &mut S,
@@ -242,10 +228,9 @@ pub(crate) fn rewrite<S: Store>(
     ensures stops { IfErr result (λ e. StopsRewriting durable cache.now path.now bytes e
         (S.log store.old) (S.log store.new)) }
 {
-    let syncs = syncs_first(durable, &bytes);
     let file = make_temp(alloc, store, cache, number)?;
     let file = write_all(alloc, store, path, file, bytes)?;
-    let file = sync_temp(alloc, store, syncs, file, path)?;
+    let file = sync_temp(alloc, store, file, path)?;
     move_to(alloc, store, file, path)?;
     secure(alloc, store, durable, path)
 }

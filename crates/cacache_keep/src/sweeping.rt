@@ -1,6 +1,7 @@
 //! The call that removes temporary files.
 ghost use Rattle.std.specs.Prelude.{◌≡◌, ◌∷◌, [], IfOk, IfErr, filter, map, string_bytes};
 ghost use Rattle.cacache_laws.specs.trees.Temporary.{area_of, cache_folder as cache_folder_of, is_temporary as is_temporary_of};
+ghost use Rattle.cacache_jobs.specs.Environment.{KeepsRest};
 ghost use Rattle.cacache_keep.specs.{Sweeping.{FindsFiles, ListsFolder, RemovesFile, RemovesFiles, StopsFinding, StopsFolder, StopsRemoval, StopsSized, StopsSweeping, others_in, swept_folder}, Told.{SweepsAs}};
 
 use crate::reading::says_gone;
@@ -183,6 +184,26 @@ fn remove_files<S: Store>(alloc: Global, store: &mut S, folder: &str, files: &[N
     Ok(bytes)
 }
 
+/// Sweeps a cache as `sweep` does, and leaves the walk open.
+fn sweep_open<S: Store, C: Clock, N: Names>(env: &mut Env<S, C, N>, cache: &str) -> Result<Swept>
+    ensures sweeps { IfOk result
+        (λ s. SweepsAs cache.now s (S.log env.old.store) (S.log env.new.store)) }
+    ensures stops { IfErr result
+        (λ e. StopsSweeping cache.now e (S.log env.old.store) (S.log env.new.store)) }
+    ensures rest { KeepsRest env.old env.new }
+{
+    let alloc = env.alloc;
+    let folder = join(alloc, cache_folder(cache), TEMP_AREA)?;
+    let Parts { files, strange } = find_files(alloc, &mut env.store, cache, folder.as_str())?;
+    let bytes = remove_files(alloc, &mut env.store, folder.as_str(), files.as_slice())?;
+    let files = files.len() as u64;
+    Ok(Swept {
+        files,
+        bytes,
+        strange,
+    })
+}
+
 /// Removes the temporary files of a cache: those in its folder `tmp` whose names begin with `.tmp`. What else lies
 /// there stays, whether a file, a folder or a link. A folder that isn't there has none. A link or a file in the place
 /// of `tmp` is strange: it stays, and nothing that a link leads to is touched.
@@ -200,14 +221,7 @@ pub fn sweep<S: Store, C: Clock, N: Names>(env: &mut Env<S, C, N>, cache: &str) 
     ensures names { env.new.names ≡ env.old.names }
     ensures base { env.new.base ≡ env.old.base }
 {
-    let alloc = env.alloc;
-    let folder = join(alloc, cache_folder(cache), TEMP_AREA)?;
-    let Parts { files, strange } = find_files(alloc, &mut env.store, cache, folder.as_str())?;
-    let bytes = remove_files(alloc, &mut env.store, folder.as_str(), files.as_slice())?;
-    let files = files.len() as u64;
-    Ok(Swept {
-        files,
-        bytes,
-        strange,
-    })
+    let answer = sweep_open(env, cache);
+    env.store.end_walks();
+    answer
 }

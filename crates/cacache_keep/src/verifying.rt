@@ -1,6 +1,6 @@
 //! The call that verifies a cache.
 ghost use Rattle.std.specs.Prelude.{◌≡◌, IfOk, IfErr};
-ghost use Rattle.cacache_jobs.specs.Sites.{site_of};
+ghost use Rattle.cacache_jobs.specs.{Environment.{KeepsRest}, Sites.{site_of}};
 ghost use Rattle.cacache_keep.specs.{Keeping.{StopsVerifying}, Told.{VerifiesAs}};
 
 use crate::asking::dangling_of;
@@ -33,6 +33,34 @@ pub struct Verdict {
     pub odd: Vec<Text>,
 }
 
+/// Verifies a cache as `verify` does, and leaves the walk open.
+fn verify_open<S: Store, C: Clock, N: Names>(env: &mut Env<S, C, N>, cache: &str) -> Result<Verdict>
+    ensures verifies { IfOk result (λ v. VerifiesAs (site_of cache.now env.old.base 0) v
+        (S.log env.old.store) (S.log env.new.store)) }
+    ensures stops { IfErr result (λ e. StopsVerifying (site_of cache.now env.old.base 0) e
+        (S.log env.old.store) (S.log env.new.store)) }
+    ensures rest { KeepsRest env.old env.new }
+{
+    let Contents { addresses, strange } = list(env, cache)?;
+    let Read {
+        good,
+        good_bytes,
+        damaged,
+        damaged_bytes,
+    } = read_each(env.alloc, &mut env.store, cache, addresses)?;
+    let Index { entries, odd } = read_index(env.alloc, &mut env.store, cache)?;
+    let dangling = dangling_of(env, cache, entries)?;
+    Ok(Verdict {
+        good,
+        good_bytes,
+        damaged,
+        damaged_bytes,
+        dangling,
+        strange,
+        odd,
+    })
+}
+
 /// Reads each content of a cache, and asks for each entry whether its content is there. Nothing changes. A content is
 /// read in pieces of 8 KiB, one of them in memory at a time, and its bytes are counted. For a cache whose folder
 /// isn't there the verdict has nothing.
@@ -55,22 +83,7 @@ pub fn verify<S: Store, C: Clock, N: Names>(env: &mut Env<S, C, N>, cache: &str)
     ensures names { env.new.names ≡ env.old.names }
     ensures base { env.new.base ≡ env.old.base }
 {
-    let Contents { addresses, strange } = list(env, cache)?;
-    let Read {
-        good,
-        good_bytes,
-        damaged,
-        damaged_bytes,
-    } = read_each(env.alloc, &mut env.store, cache, addresses)?;
-    let Index { entries, odd } = read_index(env.alloc, &mut env.store, cache)?;
-    let dangling = dangling_of(env, cache, entries)?;
-    Ok(Verdict {
-        good,
-        good_bytes,
-        damaged,
-        damaged_bytes,
-        dangling,
-        strange,
-        odd,
-    })
+    let answer = verify_open(env, cache);
+    env.store.end_walks();
+    answer
 }

@@ -80,14 +80,14 @@ ReadsSpared cache gone key result old =
     → IfOk result (λ v. v.items ≡ bytes)
 
 -- In any store that stands a read gives the bytes that the key led to on the older log, unless an entry that was
--- dropped since then has the key
+-- dropped or left since then has the key
 abbrev pub ReadsPruned : {A : Type 0} → List ℕ → List ℕ → Result (Pruned × Vec ℕ A) Error
     → List LogItem → Type 0
 ReadsPruned cache key result old =
     (home : Names) (bytes : List ℕ) (i : List Hash) → home_of cache ≡ Some home
     → IsStanding cache old → HasKey cache key i bytes old
     → IfOk result (λ r. (HasKeyAmong (map found_view r.0.dropped.items) key → ⊥)
-    → r.1.items ≡ bytes)
+    → (HasKeyAmong (map found_view r.0.left.items) key → ⊥) → r.1.items ≡ bytes)
 
 -- ---- compactions
 

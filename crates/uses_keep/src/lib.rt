@@ -167,7 +167,7 @@ pub fn read_spared<C: Clock, N: Names>(
 }
 
 /// Prunes a store in memory where everything stands where it may, and reads a key. The entries that are kept have no more
-/// bytes than the limit. If no entry that was dropped has the key, it reads the bytes that the key led to.
+/// bytes than the limit. If no entry that was dropped or left has the key, it reads the bytes that the key led to.
 pub fn read_pruned<C: Clock, N: Names>(
     env: &mut Env<MemStore, C, N>,
     cache: &str,

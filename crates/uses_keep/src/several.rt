@@ -35,8 +35,8 @@ pub fn touch_then_read<C: Clock, N: Names>(
     read
 }
 
-/// Prunes a store in memory where everything stands where it may, and looks up a key. If an entry that was dropped has it, no
-/// entry is found.
+/// Prunes a store in memory where everything stands where it may, and looks up a key. If an entry that was dropped has it, and
+/// none that was left, no entry is found.
 pub fn find_pruned<C: Clock, N: Names>(
     env: &mut Env<MemStore, C, N>,
     cache: &str,
@@ -45,7 +45,8 @@ pub fn find_pruned<C: Clock, N: Names>(
 ) -> Result<(Pruned, Option<Metadata>)>
     ensures { (home : PathNames) → home_of cache.now ≡ Some home
         → IsStanding cache.now env.old.store → IfOk result (λ r. HasKeyAmong
-        (map found_view r.0.dropped.items) key.now → r.1 ≡ None) }
+        (map found_view r.0.dropped.items) key.now
+        → (HasKeyAmong (map found_view r.0.left.items) key.now → ⊥) → r.1 ≡ None) }
 {
     let pruned = prune(env, cache, limits)?;
     keep_laws(&env.store);

@@ -1,8 +1,8 @@
 -- Contents that are dropped one after another: what the answers to the steps say, and why that ends.
 -- Buckets that are synced, one after another.
-use Rattle.std.proofs.{Common.{◌≡◌, ◌+◌, ◌<◌, ◌^◌, ◌-◌, ℕ, List, [], ◌∷◌, ◌++◌, Bool, true, false, Option, Result, Ok, Err, inl, inr, arith, drop, filter, get_or, length, length-append, map, refl, sym, ap, subst, take, ◌∙◌}, lemmas.List.{drop_more, map-append, take-append-drop, take_more}}
+use Rattle.std.proofs.{Common.{◌≡◌, ◌+◌, ◌<◌, ◌^◌, ◌-◌, ℕ, List, [], ◌∷◌, ◌++◌, true, false, Option, Ok, Err, inl, inr, arith, drop, filter, get_or, length, length-append, refl, sym, ap, subst, take, ◌∙◌}, lemmas.List.{drop_more, map-append, take-append-drop, take_more}}
 use Rattle.std.specs.Prelude.{min}
-use Rattle.cacache_core.specs.declared.{errors.{Error.{Error, TheVariants.{OutOfMemory}}, Fault.{Fault, TheVariants.{NotFound}}}, integrity.digest.Hash.{Hash}}
+use Rattle.cacache_core.specs.declared.{errors.{Error.{Error, TheVariants.{OutOfMemory}}, Fault.TheVariants.{NotFound}}, integrity.digest.Hash.{Hash}}
 use Rattle.cacache_store.specs.{declared.store.log.LogItem.{LogItem}, Fits.{Fits, Logs}, Plain.{PlainAnswer}}
 use Rattle.cacache_store.specs.declared.store.answer.Answer.TheVariants as answers
 use Rattle.cacache_store.specs.declared.store.step.Step.TheVariants as steps

@@ -13,10 +13,10 @@ use Rattle.cacache_calls.specs.{Runs.{Gains, Moves}, SingleSteps.{Does, FailsAt}
 use Rattle.cacache_value.specs.{Acts.{DropFolder, Drop, act_at, act_if_done, act_of, change}, Placed.{Placed}, Value.{Value, value_of_tree, wide_value}}
 use Rattle.cacache_value.proofs.Traces.{steps_act, steps_keep_placed}
 use Rattle.cacache_loss.{specs.Fixing.{is_sync}, proofs.KeptPaths.{sync_tree}}
-use Rattle.cacache_laws.specs.{Caches.{HasContent, HasKey}, Sequence.{tree_on, AreAnswered}, Standing.{IsStanding}, trees.{Collecting.{is_live}, Contents.{bucket_in, content_in}}}
-use Rattle.cacache_laws.proofs.{Calls.InParts.{logs_lead}, Readings.GivenReads.{same_stays_known}, trees.{Collected.{from_kept}, Keeping.{removals_leave}, Logged.{answered_split, gains_join, log_rooted, tree_split}, Members.{Member, contains_member, member_contains}, Twins.Twice.{address_is}}}
-use Rattle.cacache_keep.specs.{Buckets.{FindsBuckets, Listed, ListsInTurn, StopsFinding, StopsNextPart, StopsParts, index_area_in}, declared.{dropping.Tally.{Tally}, grace.Fate.{Fate, TheVariants.{Dropped, Young, Gone}}}, Calls.{AreOthers, has_address_in, has_entry}, Collecting.{CollectsBy, SparesRoots, StopsChosen, StopsCollectingBy, StopsRest, Told}, Dropping.{DropsAll, DropsEach, StopsDropping, Follows, Met, StopsUnlinking, Unlinks}, Emptying.{Empties, EmptiesBoth}, Keeping.{Chooses, StopsEarly}, Later.{KeepsLed, OptionsKeepLed, RootsStay, StoppedOptionsKeepLed}, Rewriting.{StopsSyncingBucket, SyncsBucket, folder_of}, Syncing.{StopsAbove, StopsBuckets, StopsIndexSync, StopsInTurn, StopsNextSync, SyncsBuckets, SyncsIndex, SyncsInTurn, folders_above}}
-use Rattle.cacache_keep.proofs.{Collections.{Behind.{found_same, key_same, lies_same}, Leaving.{Choice, choice, unused_on, unused_ones}, StoppedKeys.{early_keeps, parts}}, Stopped.{Keeps, gained, gains_none}}
+use Rattle.cacache_laws.specs.{Caches.{HasContent}, Sequence.{tree_on, AreAnswered}, Standing.{IsStanding}, trees.{Collecting.{is_live}, Contents.{bucket_in, content_in}}}
+use Rattle.cacache_laws.proofs.{Calls.InParts.{logs_lead}, Readings.GivenReads.{same_stays_known}, trees.{Collected.{from_kept}, Keeping.{removals_leave}, Logged.{answered_split, gains_join, tree_split}, Members.{Member, contains_member, member_contains}, Twins.Twice.{address_is}}}
+use Rattle.cacache_keep.specs.{Buckets.{FindsBuckets, Listed, ListsInTurn, StopsFinding, StopsNextPart, StopsParts, index_area_in}, declared.{dropping.Tally.{Tally}, grace.Fate.{Fate, TheVariants.{Dropped, Young, Gone}}}, Calls.{AreOthers, has_address_in, has_entry}, Collecting.{CollectsBy, StopsChosen, StopsCollectingBy, Told}, Dropping.{DropsAll, DropsEach, StopsDropping, Follows, Met, Unlinks}, Emptying.{Empties, EmptiesBoth}, Keeping.{Chooses}, Later.{KeepsLed, OptionsKeepLed, RootsStay, StoppedOptionsKeepLed}, Rewriting.{StopsSyncingBucket, SyncsBucket, folder_of}, Syncing.{StopsBuckets, StopsIndexSync, StopsInTurn, StopsNextSync, SyncsBuckets, SyncsIndex, SyncsInTurn, folders_above}}
+use Rattle.cacache_keep.proofs.{Collections.{Behind.{found_same, key_same, lies_same}, Leaving.{Choice, choice, unused_on, unused_ones}, StoppedKeys.{chooses_keep, early_keeps, parts}}, Stopped.{Keeps, gained, gains_none}}
 
 -- ---- moves that leave all but some contents
 
@@ -172,15 +172,15 @@ module _ (cache : List ℕ) (home : Names) (is : home_of cache ≡ Some home) (h
       (each_dropped limit met gs next new rest (λ h member. among h (inr member)) more)
   each_dropped limit (m ∷ met) [] old new are among drops = absurd cc
 
-  pub unlinking_stopped : (p : List ℕ) (e : Error) (old new : Option (List LogItem)) → StopsUnlinking p e old new → Tidies old new
-  unlinking_stopped p (IoError fault message) old new (other, does) = unremoved p fault old new does
-  unlinking_stopped p OutOfMemory old new (other, inl same) = nothing old new same
-  unlinking_stopped p OutOfMemory old new (other, inr (fault, does)) = unremoved p fault old new does
-  unlinking_stopped p e old new (other, fails) = absurd fails
+  pub removal_failed : (p : List ℕ) (e : Error) (old new : Option (List LogItem)) → FailsAt (steps.RemoveFile p) e old new → Tidies old new
+  removal_failed p (IoError fault message) old new does = unremoved p fault old new does
+  removal_failed p OutOfMemory old new (inl same) = nothing old new same
+  removal_failed p OutOfMemory old new (inr (fault, does)) = unremoved p fault old new does
+  removal_failed p e old new fails = absurd fails
 
   -- ---- syncs
 
-  sync_failed : (step : PlainStep) (e : Error) (old new : Option (List LogItem)) → is_sync step ≡ true → FailsAt step e old new → Tidies old new
+  pub sync_failed : (step : PlainStep) (e : Error) (old new : Option (List LogItem)) → is_sync step ≡ true → FailsAt step e old new → Tidies old new
   sync_failed step (IoError fault message) old new is does = synced step (answers.Failed fault) old new is does
   sync_failed step OutOfMemory old new is (inl same) = nothing old new same
   sync_failed step OutOfMemory old new is (inr (fault, does)) = synced step (answers.Failed fault) old new is does
@@ -289,9 +289,8 @@ picked_ones : (p : List Hash → Bool) (hs : List Hash) → filter p (map (λ h.
 picked_ones p [] = refl
 picked_ones p (h ∷ hs) = unused_on (p (h ∷ [])) h (filter p (map (λ x. x ∷ []) hs)) (filter (λ x. p (x ∷ [])) hs) (picked_ones p hs)
 
-module _ (site : Site) (home : Names) (live : ℕ) (unused : List (List Hash)) (old new : List LogItem) (chosen : Option (List LogItem))
-    (is : home_of site.cache ≡ Some home) (logged : IsLog new) (standing : IsStanding site.cache old)
-    (c : Chooses site live unused (Some old) chosen) where
+module _ (site : Site) (home : Names) (live : ℕ) (unused : List (List Hash)) (old chosen : Option (List LogItem)) (is : home_of site.cache ≡ Some home)
+    (c : Chooses site live unused old chosen) where
   abbrev pub idle : List Hash
   idle = filter (λ h. not (is_live c.entries h)) c.order.hashes
 
@@ -305,50 +304,22 @@ module _ (site : Site) (home : Names) (live : ℕ) (unused : List (List Hash)) (
   over_are : (roots : List Hash) (rest : List (List Hash)) → AreOthers roots unused rest → rest ≡ map (λ h. h ∷ []) (over roots)
   over_are roots rest r = r.which ∙ ap (filter (λ i. not (has_address_in roots i))) unused_are ∙ picked_ones (λ i. not (has_address_in roots i)) idle
 
+  pub among : (roots : List Hash) (h : Hash) → Member h (over roots) → Member h c.order.hashes
+  among roots h m = (from_kept (λ x. not (is_live c.entries x)) h c.order.hashes (from_kept (λ x. not (lists roots x)) h idle m).0).0
+
   -- one that is live isn't among them, and neither is one of the roots'
-  dead : (roots : List Hash) (h : Hash) → is_live c.entries h ≡ true → Member h (over roots) → ⊥
+  pub dead : (roots : List Hash) (h : Hash) → is_live c.entries h ≡ true → Member h (over roots) → ⊥
   dead roots h lives m =
       let member = (from_kept (λ x. not (lists roots x)) h idle m).0 in
       let no : not (is_live c.entries h) ≡ true = (from_kept (λ x. not (is_live c.entries x)) h c.order.hashes member).1 in
       let wrong : false ≡ true = ap not (sym lives) ∙ no in absurd cc
 
-  unrooted : (roots : List Hash) (h : Hash) → lists roots h ≡ true → Member h (over roots) → ⊥
+  pub unrooted : (roots : List Hash) (h : Hash) → lists roots h ≡ true → Member h (over roots) → ⊥
   unrooted roots h lives m =
       let no : not (lists roots h) ≡ true = (from_kept (λ x. not (lists roots x)) h idle m).1 in
       let wrong : false ≡ true = ap not (sym lives) ∙ no in absurd cc
 
-  -- what the moves after the choice leave
-  module _ (roots : List Hash) (tidy : Tidies site.cache home is (over roots) chosen (Some new)) where
-    shown : Choice site home live unused old new chosen is logged c tidy.moves
-    shown = choice site home live unused old new chosen is logged c tidy.moves tidy.gains
-
-    all : (h : Hash) → Member h (over roots) → IsHash h
-    all h m =
-        let member = (from_kept (λ x. not (lists roots x)) h idle m).0 in
-        shown.holds.formed h (contains_member h c.order.hashes (from_kept (λ x. not (is_live c.entries x)) h c.order.hashes member).0)
-
-    left : Spares site.cache home is (over roots) (tree_of old) (tree_of new)
-    left = subst (Spares site.cache home is (over roots) (tree_of old)) (sym shown.leads) (tidy.spares all (tree_of old) (subst (λ f. Placed f (tree_of old)) is standing.placed) standing.rooted shown.answered)
-
-    pub led : KeepsLed site.cache old new
-    led = record {
-      standing = record { placed = subst (λ f. Placed f (tree_of new)) (sym is) left.placed; rooted = left.rooted };
-      finds = λ key. found_same site home old new is key (left.buckets (sha1 key) (keys_have_digests key));
-      key = key_same site home old new is c.entries shown.index (λ h hash lives. left.contents h hash (dead roots h lives)) left.buckets;
-    }
-
-    pub rooted_stays : (i : List Hash) (bytes : List ℕ) → ((h : Hash) → address i ≡ Some h → lists roots h ≡ true) → HasContent site.cache i bytes old → HasContent site.cache i bytes new
-    rooted_stays i bytes named has =
-        let a = address_is i has.formed in
-        record {
-          content = lies_same site home old new is i a.0 a.2 (left.contents a.0 a.1 (unrooted roots a.0 (named a.0 a.2))) ∙ has.content;
-          formed = has.formed;
-          meets = has.meets;
-        }
-
-  -- ---- a collection, and one that an error ended
-
-  rest_dropped : (limit : Option ℕ) (roots : List Hash) (rest : List (List Hash)) (t : Tally) (old new : Option (List LogItem)) → AreOthers roots unused rest → DropsAll limit site.cache rest t old new → Tidies site.cache home is (over roots) old new
+  pub rest_dropped : (limit : Option ℕ) (roots : List Hash) (rest : List (List Hash)) (t : Tally) (old new : Option (List LogItem)) → AreOthers roots unused rest → DropsAll limit site.cache rest t old new → Tidies site.cache home is (over roots) old new
   rest_dropped limit roots rest t old new r d =
       each_dropped site.cache home is (over roots) limit d.met (over roots) old new (d.each ∙ over_are roots rest r) (λ h m. m) d.dropping
 
@@ -357,30 +328,63 @@ module _ (site : Site) (home : Names) (live : ℕ) (unused : List (List Hash)) (
       let front = parts (map (λ (m : Met). m.0) s.met) s.next s.rest (over roots) (sym (over_are roots rest r) ∙ s.split) in
       tidies_then site.cache home is (over roots) old s.between new
       (each_dropped site.cache home is (over roots) limit s.met front.hashes old s.between front.gone_are front.first s.dropping)
-      (unlinking_stopped site.cache home is (over roots) (content_path site.cache s.next) e s.between new s.stop)
+      (removal_failed site.cache home is (over roots) (content_path site.cache s.next) e s.between new s.stop.1)
 
-  chosen_stopped : (told : Told) (limit : Option ℕ) (odd : List (List ℕ)) (e : Error) → StopsChosen told limit site odd unused e chosen (Some new) → KeepsLed site.cache old new
-  chosen_stopped told limit odd e (inl (refuses, same)) = led [] (nothing site.cache home is (over []) chosen (Some new) same)
-  chosen_stopped told limit odd e (inr (inl (memory, same))) = led [] (nothing site.cache home is (over []) chosen (Some new) same)
-  chosen_stopped told limit odd e (inr (inr (rest, allows, (roots, hashes, named, same, r), inl stop))) =
-      led roots (index_stopped site.cache home is (over roots) told.durable e chosen (Some new) stop)
-  chosen_stopped told limit odd e (inr (inr (rest, allows, (roots, hashes, named, same, r), inr (synced, syncs, stop)))) =
-      led roots (tidies_then site.cache home is (over roots) chosen synced (Some new) (index_synced site.cache home is (over roots) told.durable chosen synced syncs) (rest_stopped limit roots rest e synced (Some new) r stop))
+  -- what was done after the choice, if an error ended it, with the roots
+  pub chosen_stopped : (told : Told) (limit : Option ℕ) (odd : List (List ℕ)) (e : Error) (new : Option (List LogItem)) → StopsChosen told limit site odd unused e chosen new → (roots : List Hash) × Tidies site.cache home is (over roots) chosen new
+  chosen_stopped told limit odd e new (inl (refuses, same)) = ([], nothing site.cache home is (over []) chosen new same)
+  chosen_stopped told limit odd e new (inr (inl (memory, same))) = ([], nothing site.cache home is (over []) chosen new same)
+  chosen_stopped told limit odd e new (inr (inr (rest, allows, (roots, hashes, named, same, r), inl stop))) =
+      (roots, index_stopped site.cache home is (over roots) told.durable e chosen new stop)
+  chosen_stopped told limit odd e new (inr (inr (rest, allows, (roots, hashes, named, same, r), inr (synced, syncs, stop)))) =
+      (roots, tidies_then site.cache home is (over roots) chosen synced new (index_synced site.cache home is (over roots) told.durable chosen synced syncs) (rest_stopped limit roots rest e synced new r stop))
 
-module _ (told : Told) (limit : Option ℕ) (site : Site) (home : Names) (kept : ℕ) (t : Tally) (old new : List LogItem)
-    (is : home_of site.cache ≡ Some home) (logged : IsLog new) (standing : IsStanding site.cache old)
-    (c : CollectsBy told limit site kept t (Some old) (Some new)) where
-  roots : List Hash
-  roots = c.sparing.0
+-- what the moves after the choice leave
+module _ (site : Site) (home : Names) (live : ℕ) (unused : List (List Hash)) (old new : List LogItem) (chosen : Option (List LogItem))
+    (is : home_of site.cache ≡ Some home) (logged : IsLog new) (standing : IsStanding site.cache old) (c : Chooses site live unused (Some old) chosen)
+    (roots : List Hash) (tidy : Tidies site.cache home is (over site home live unused (Some old) chosen is c roots) chosen (Some new)) where
+  abbrev gone : List Hash
+  gone = over site home live unused (Some old) chosen is c roots
 
-  tidied : Tidies site.cache home is (over site home c.live c.unused old new c.chosen is logged standing c.choosing c.sparing.0) c.chosen (Some new)
+  shown : Choice site home live unused old new chosen is logged c tidy.moves
+  shown = choice site home live unused old new chosen is logged c tidy.moves tidy.gains
+
+  all : (h : Hash) → Member h gone → IsHash h
+  all h m = shown.holds.formed h (contains_member h c.order.hashes (among site home live unused (Some old) chosen is c roots h m))
+
+  left : Spares site.cache home is gone (tree_of old) (tree_of new)
+  left = subst (Spares site.cache home is gone (tree_of old)) (sym shown.leads) (tidy.spares all (tree_of old) (subst (λ f. Placed f (tree_of old)) is standing.placed) standing.rooted shown.answered)
+
+  pub led : KeepsLed site.cache old new
+  led = record {
+    standing = record { placed = subst (λ f. Placed f (tree_of new)) (sym is) left.placed; rooted = left.rooted };
+    finds = λ key. found_same site home old new is key (left.buckets (sha1 key) (keys_have_digests key));
+    key = key_same site home old new is c.entries shown.index (λ h hash lives. left.contents h hash (dead site home live unused (Some old) chosen is c roots h lives)) left.buckets;
+  }
+
+  pub rooted_stays : (i : List Hash) (bytes : List ℕ) → ((h : Hash) → address i ≡ Some h → lists roots h ≡ true) → HasContent site.cache i bytes old → HasContent site.cache i bytes new
+  rooted_stays i bytes named has =
+      let a = address_is i has.formed in
+      record {
+        content = lies_same site home old new is i a.0 a.2 (left.contents a.0 a.1 (unrooted site home live unused (Some old) chosen is c roots a.0 (named a.0 a.2))) ∙ has.content;
+        formed = has.formed;
+        meets = has.meets;
+      }
+
+-- ---- a collection, and one that an error ended
+
+module _ (told : Told) (limit : Option ℕ) (site : Site) (home : Names) (kept : ℕ) (t : Tally) (old new : Option (List LogItem))
+    (is : home_of site.cache ≡ Some home) (c : CollectsBy told limit site kept t old new) where
+  pub tidied : Tidies site.cache home is (over site home c.live c.unused old c.chosen is c.choosing c.sparing.0) c.chosen new
   tidied =
-      let hs = over site home c.live c.unused old new c.chosen is logged standing c.choosing c.sparing.0 in
-      tidies_then site.cache home is hs c.chosen c.synced (Some new) (index_synced site.cache home is hs told.durable c.chosen c.synced c.syncing)
-      (rest_dropped site home c.live c.unused old new c.chosen is logged standing c.choosing limit c.sparing.0 c.rest t c.synced (Some new) c.sparing.4 c.dropping)
+      let hs = over site home c.live c.unused old c.chosen is c.choosing c.sparing.0 in
+      tidies_then site.cache home is hs c.chosen c.synced new (index_synced site.cache home is hs told.durable c.chosen c.synced c.syncing)
+      (rest_dropped site home c.live c.unused old c.chosen is c.choosing limit c.sparing.0 c.rest t c.synced new c.sparing.4 c.dropping)
 
-  pub collected_led : KeepsLed site.cache old new
-  collected_led = led site home c.live c.unused old new c.chosen is logged standing c.choosing c.sparing.0 tidied
+  pub collect_gains : (moves : Moves) × Gains old new moves
+  collect_gains =
+      let k = chooses_keep site c.live c.unused old c.chosen c.choosing in
+      (k.moves ++ tidied.moves, gains_join old c.chosen new k.moves tidied.moves k.gains tidied.gains)
 
   -- the address of a root is among theirs
   pub named_root : (i : List Hash) (h : Hash) → Contains told.roots i → address i ≡ Some h → lists c.sparing.0 h ≡ true
@@ -388,16 +392,25 @@ module _ (told : Told) (limit : Option ℕ) (site : Site) (home : Names) (kept :
       let some : Contains (map Some c.sparing.1) (Some h) = subst (λ l. Contains l (Some h)) (sym c.sparing.2) (subst (Contains (map address told.roots)) at (member_contains_address told.roots i inside)) in
       (lists_finds c.sparing.0 h).1 ((c.sparing.3 h).1 (from_some c.sparing.1 h some))
 
-  pub collected_root : (i : List Hash) (bytes : List ℕ) → Contains told.roots i → HasContent site.cache i bytes old → HasContent site.cache i bytes new
-  collected_root i bytes inside = rooted_stays site home c.live c.unused old new c.chosen is logged standing c.choosing c.sparing.0 tidied i bytes (λ h at. named_root i h inside at)
-
 pub options_keep_led : OptionsKeepLed
-options_keep_led told limit site home kept t old new is logged standing c = collected_led told limit site home kept t old new is logged standing c
+options_keep_led told limit site home kept t old new is logged standing c =
+    led site home c.live c.unused old new c.chosen is logged standing c.choosing c.sparing.0 (tidied told limit site home kept t (Some old) (Some new) is c)
 
 pub roots_stay : RootsStay
-roots_stay told limit site home kept t i bytes old new is logged standing c inside = collected_root told limit site home kept t old new is logged standing c i bytes inside
+roots_stay told limit site home kept t i bytes old new is logged standing c inside =
+    rooted_stays site home c.live c.unused old new c.chosen is logged standing c.choosing c.sparing.0 (tidied told limit site home kept t (Some old) (Some new) is c) i bytes
+    (λ h at. named_root told limit site home kept t (Some old) (Some new) is c i h inside at)
 
 -- all moves before the choice only look
 pub stopped_options_keep_led : StoppedOptionsKeepLed
 stopped_options_keep_led told limit site home e old new is logged standing (inl early) = kept_led site home old new is logged standing (early_keeps site e (Some old) (Some new) early)
-stopped_options_keep_led told limit site home e old new is logged standing (inr (live, unused, chosen, c, stop)) = chosen_stopped site home live unused old new chosen is logged standing c told limit _ e stop
+stopped_options_keep_led told limit site home e old new is logged standing (inr (live, unused, chosen, c, stop)) =
+    let after = chosen_stopped site home live unused (Some old) chosen is c told limit _ e (Some new) stop in
+    led site home live unused old new chosen is logged standing c after.0 after.1
+
+pub stop_gains : (told : Told) (limit : Option ℕ) (site : Site) (home : Names) (e : Error) (old new : Option (List LogItem)) → home_of site.cache ≡ Some home → StopsCollectingBy told limit site e old new → (moves : Moves) × Gains old new moves
+stop_gains told limit site home e old new is (inl early) = (let k = early_keeps site e old new early in (k.moves, k.gains))
+stop_gains told limit site home e old new is (inr (live, unused, chosen, c, stop)) =
+    let k = chooses_keep site live unused old chosen c in
+    let after = chosen_stopped site home live unused old chosen is c told limit _ e new stop in
+    (k.moves ++ after.1.moves, gains_join old chosen new k.moves after.1.moves k.gains after.1.gains)

@@ -12,10 +12,10 @@ use Rattle.cacache_calls.specs.declared.reply.Reply.TheVariants as replies
 use Rattle.cacache_calls.specs.{declared.{command.Command.{Command}, reply.Reply.{Reply}}, Runs.{Gains, Moves, Ran, without_message}, State.{Site}, Table.{opening}, Walking.{most}}
 use Rattle.cacache_value.specs.Value.{value_of_tree}
 use Rattle.cacache_walks.specs.{Listing.{ListsContents, content_area_in}, Reading.{top_folder}}
-use Rattle.cacache_laws.specs.{Beside.{ShareAddress}, Caches.{Called, HasKey, IsCache}, Keeping.{found_under}, Looks.{OnlyLooks}, ReadAnswers.{entries_on}, Sequence.{IsSound}, Standing.{IsStanding}, trees.{Collecting.{IsCollected, Removes, is_live}, Contents.{content_in}, Later.{SparingCall}, Mending.{found_in}}}
+use Rattle.cacache_laws.specs.{Beside.{ShareAddress}, Caches.{Called, HasKey, IsCache}, Keeping.{found_under}, Looks.{OnlyLooks}, ReadAnswers.{entries_on}, Sequence.{IsSound}, trees.{Collecting.{IsCollected, Removes, is_live}, Contents.{content_in}, Mending.{found_in}}}
 use Rattle.cacache_laws.proofs.{Calls.{InParts.{logs_lead}, Logs.{some_same}, CallErrors.{plain_error}}, Readings.{GivenReads.{same_stays_known}, OpenReaders.{log_front}}, Removing.Removed.{contents_go}, trees.{Collected.{from_kept, live_so}, Keeping.{removals_leave}, Led.{found_listed}, Logged.{gains_join, log_rooted}, Members.{Member, contains_member, member_contains}, SoundRemovals.{removals_leave_sound}}}
-use Rattle.cacache_keep.specs.{declared.checking.OddLines.{OddLines}, Behind.{KeepsKeys, StoppedKeepKeys}, Calls.{Asks, ListsEntries, MadeCalls, StopsReading, StopsRemoving, has_entry, removal}, Keeping.{Chooses, StopsCollecting, StopsEarly}, Sparing.{StaysLed}}
-use Rattle.cacache_keep.proofs.{Collections.{Behind.{found_same, key_same, removals_stand}, Leaving.{Choice, choice, removals, removals_gain, removed_by, unused_ones, call_led, keeps_led, then_led}}, Stopped.{AllLook, calls_gain, folders_look, index_keeps, stops_look, gained, then_keeps, Keeps, made_looks}}
+use Rattle.cacache_keep.specs.{Behind.{KeepsKeys, StoppedKeepKeys}, Calls.{Asks, ListsEntries, MadeCalls, StopsReading, StopsRemoving, has_entry, removal}, Keeping.{Chooses, StopsEarly}}
+use Rattle.cacache_keep.proofs.{Collections.{Behind.{found_same, key_same}, Leaving.{Choice, choice, removals, removals_gain, removed_by, unused_ones}}, Stopped.{AllLook, folders_look, index_keeps, stops_look, gained, then_keeps, Keeps, made_looks}}
 
 -- ---- moves that only look
 
@@ -42,7 +42,7 @@ module _ (site : Site) where
   early_keeps e old new (inl (moves, gains, stops)) = gained old new moves gains (stops_look most (top_folder (content_area_in site.cache) ∷ []) moves e stops)
   early_keeps e old new (inr (addresses, strange, found, contents, reading)) = then_keeps old found new (contents_keep addresses strange old found contents) (reading_keeps e found new reading)
 
-  chooses_keep : (kept : ℕ) (dropped : List (List Hash)) (old new : Option (List LogItem)) → Chooses site kept dropped old new → Keeps old new
+  pub chooses_keep : (kept : ℕ) (dropped : List (List Hash)) (old new : Option (List LogItem)) → Chooses site kept dropped old new → Keeps old new
   chooses_keep kept dropped old new c = then_keeps old c.found new (contents_keep c.addresses c.strange old c.found c.contents) (listing_keeps c.entries c.found new c.listing)
 
   -- all that was known stays
@@ -175,34 +175,8 @@ module _ (site : Site) (home : Names) (kept : ℕ) (dropped : List (List Hash)) 
         key = λ key bytes i has. last.2.key key bytes i (apart key bytes i has) (keys_same key bytes i has);
       }
 
-  removals_led : (key bytes : List ℕ) (i : List Hash) → IsStanding site.cache old → HasKey site.cache key i bytes old → StaysLed site.cache key i bytes old new
-  removals_led key bytes i standing has =
-      let stands = removals_stand site.cache gone t (tree_of mid) removes standing.placed standing.rooted in
-      let first : StaysLed site.cache key i bytes old mid = record { standing = record { placed = stands.0; rooted = stands.1 }; finds = finds_same key; has = keys_same key bytes i has } in
-      let spares : SparingCall site.cache key i (commands.RemoveHash (split.hash ∷ [])) mid new
-      = record { reply = replies.Refused (without_message e); called = called; may = tt; key_spared = tt; content_spared = (whole, apart key bytes i has) } in
-      then_led site.cache key bytes i old mid new first (call_led site.cache key bytes i (commands.RemoveHash (split.hash ∷ [])) mid new refl logged spares first.standing first.has)
-
 pub stopped_keep_keys : StoppedKeepKeys
 stopped_keep_keys odd site home e old new is logged sound (inl early) = kept_cache site old new logged sound (early_keeps site e (Some old) (Some new) early)
 stopped_keep_keys odd site home e old new is logged sound (inr (kept, dropped, chosen, c, inl (refuses, same))) =
     kept_cache site old new logged sound (subst (λ l. Keeps (Some old) l) (sym same) (chooses_keep site kept dropped (Some old) chosen c))
 stopped_keep_keys odd site home e old new is logged sound (inr (kept, dropped, chosen, c, inr (allows, s))) = removals_stopped site home kept dropped e old new chosen is logged c s sound
-
--- so each key that led to bytes stays led to them in any store that stands
-pub stopped_led : (choice : OddLines) (site : Site) (home : Names) (e : Error) (key bytes : List ℕ) (i : List Hash) (old new : List LogItem) → home_of site.cache ≡ Some home → IsLog new
-    → StopsCollecting choice site e (Some old) (Some new) → IsStanding site.cache old → HasKey site.cache key i bytes old → StaysLed site.cache key i bytes old new
-stopped_led odd site home e key bytes i old new is logged (inl early) = keeps_led site.cache key bytes i old new (early_keeps site e (Some old) (Some new) early) logged
-stopped_led odd site home e key bytes i old new is logged (inr (kept, dropped, chosen, c, inl (refuses, same))) =
-    keeps_led site.cache key bytes i old new (subst (λ l. Keeps (Some old) l) (sym same) (chooses_keep site kept dropped (Some old) chosen c)) logged
-stopped_led odd site home e key bytes i old new is logged (inr (kept, dropped, chosen, c, inr (allows, s))) = removals_led site home kept dropped e old new chosen is logged c s key bytes i
-
--- the moves of such a collection
-pub stop_gains : (choice : OddLines) (site : Site) (e : Error) (old new : Option (List LogItem)) → StopsCollecting choice site e old new → (moves : Moves) × Gains old new moves
-stop_gains odd site e old new (inl early) = (let k = early_keeps site e old new early in (k.moves, k.gains))
-stop_gains odd site e old new (inr (kept, dropped, chosen, c, inl (refuses, same))) = (let k = chooses_keep site kept dropped old chosen c in (k.moves, subst (λ l. Gains old l k.moves) (sym same) k.gains))
-stop_gains odd site e old new (inr (kept, dropped, chosen, c, inr (allows, s))) =
-    let k = chooses_keep site kept dropped old chosen c in
-    let gone = calls_gain site (map removal s.gone) chosen s.between s.removing in
-    let last = s.refused in
-    (k.moves ++ (gone.0 ++ last.0), gains_join old chosen new k.moves (gone.0 ++ last.0) k.gains (gains_join chosen s.between new gone.0 last.0 gone.1 last.2))

@@ -10,7 +10,7 @@ use Rattle.cacache_calls.specs.{Runs.{Moves}, SingleSteps.{Does, FailsAt}, StepP
 use Rattle.cacache_value.{specs.Kinds.{PathKind, Temporary, path_kind}, proofs.KindsApart.{kind-below}}
 use Rattle.cacache_laws.{specs.{Sequence.{AreAnswered}, trees.Compacting.{compact_text}}, proofs.Calls.InParts.{writing_keeps}}
 use Rattle.cacache_loss.{specs.{Fixing.{is_at}, Moments.{Moment}}, proofs.UnchangedPaths.{at_false}}
-use Rattle.cacache_keep.specs.{Compacting.{Bucket, CompactsBucket, RewritesIf, StopsBucket, StopsUnchanged, is_loose}, Rewriting.{MakesTemp, Rewrites, StopsMaking, StopsMoving, StopsRewriting, StopsSecuring, StopsSyncing, StopsSyncingBucket, StopsWriting, SyncsBucket, SyncsFolder, SyncsTemp, Takes, TakesNone, Took, folder_of, syncs_first}}
+use Rattle.cacache_keep.specs.{Compacting.{Bucket, CompactsBucket, RewritesIf, StopsBucket, StopsUnchanged, is_loose}, Rewriting.{MakesTemp, Rewrites, StopsMaking, StopsMoving, StopsRewriting, StopsSecuring, StopsSyncingBucket, StopsWriting, SyncsBucket, SyncsFolder, Takes, TakesNone, Took, folder_of}}
 use Rattle.cacache_keep.proofs.{Losses.ApartSteps.{Apart, EachApart, apart_join, Fixes, fixes_failed, fixes_none, fixes_step, fixes_then}, NewBuckets.Rewritten.{Has, temp_made, temp_path_named, wrote_has, writes_take}}
 
 module _ (cache : List ℕ) (home : Names) (is : home_of cache ≡ Some home) (q : Names) (k : PathKind) (kind : path_kind (Some home) q ≡ k) (other : k ≡ Temporary → ⊥) where
@@ -82,9 +82,8 @@ module _ (cache : List ℕ) (home : Names) (is : home_of cache ≡ Some home) (q
   abbrev pub IfSpared : PlainTemp → Moment → Moves → Type 0
   IfSpared file w moves = Spares file.path → EachApart q moves
 
-  pub temp_sync_apart : (syncs : Bool) (full : PlainTemp) (old new : Option (List LogItem)) → SyncsTemp syncs full old new → Fixes (IfSpared full) old new
-  temp_sync_apart true full old new does = fixes_step (IfSpared full) (steps.SyncTemp full) (answers.Synced full) old new does (λ w rooted e temp. (temp, tt))
-  temp_sync_apart false full old new same = fixes_none (IfSpared full) old new same (λ w temp. tt)
+  pub temp_sync_apart : (full : PlainTemp) (old new : Option (List LogItem)) → Does (steps.SyncTemp full) (answers.Synced full) old new → Fixes (IfSpared full) old new
+  temp_sync_apart full old new does = fixes_step (IfSpared full) (steps.SyncTemp full) (answers.Synced full) old new does (λ w rooted e temp. (temp, tt))
 
   -- ---- one bucket
 
@@ -95,7 +94,7 @@ module _ (cache : List ℕ) (home : Names) (is : home_of cache ≡ Some home) (q
   rewrite_apart : (durable : Bool) (path bytes : List ℕ) (old new : Option (List LogItem)) → Spares path → Rewrites durable cache path bytes old new → Fixes AllApart old new
   rewrite_apart durable path bytes old new spares r =
       fixes_then (Full r.full bytes) (λ w moves. Spares r.full.path → EachApart q moves) AllApart old r.written new (full_apart r.file r.full bytes old r.made r.written r.making r.writing)
-      (fixes_then (IfSpared r.full) (IfSpared r.full) (IfSpared r.full) r.written r.synced new (temp_sync_apart (syncs_first durable bytes) r.full r.written r.synced r.syncing)
+      (fixes_then (IfSpared r.full) (IfSpared r.full) (IfSpared r.full) r.written r.synced new (temp_sync_apart r.full r.written r.synced r.syncing)
       (fixes_then (λ w moves. Spares r.full.path → EachApart q moves) AllApart (λ w moves. Spares r.full.path → EachApart q moves) r.synced r.moved new
       (fixes_step (λ w moves. Spares r.full.path → EachApart q moves) (steps.Persist r.full path) answers.Done r.synced r.moved r.moving (λ w rooted e temp. ((temp, spares), tt)))
       (folder_sync_apart durable path r.moved new r.securing)
@@ -151,9 +150,8 @@ module _ (cache : List ℕ) (home : Names) (is : home_of cache ≡ Some home) (q
       (λ w one two rooted a b. apart_join q one two a.0 (b a.1 a.2))
 
   -- before the move
-  pub early_stops : (syncs : Bool) (file full : PlainTemp) (bytes : List ℕ) (e : Error) (old made written new : Option (List LogItem)) → MakesTemp cache file old made → Took file bytes full [] made written → StopsSyncing syncs full e written new → Fixes AllApart old new
-  early_stops false file full bytes e old made written new making took fails = absurd fails
-  early_stops true file full bytes e old made written new making took fails =
+  pub early_stops : (file full : PlainTemp) (bytes : List ℕ) (e : Error) (old made written new : Option (List LogItem)) → MakesTemp cache file old made → Took file bytes full [] made written → FailsAt (steps.SyncTemp full) e written new → Fixes AllApart old new
+  early_stops file full bytes e old made written new making took fails =
       fixes_then (Full full bytes) (IfSpared full) AllApart old written new (full_apart file full bytes old made written making took)
       (fixes_failed (IfSpared full) (steps.SyncTemp full) e written new fails (λ w temp. tt) (λ w fault rooted is temp. (temp, tt)))
       (λ w one two rooted a b. apart_join q one two a.0 (b a.1))
@@ -173,12 +171,12 @@ module _ (cache : List ℕ) (home : Names) (is : home_of cache ≡ Some home) (q
   unread_stops path e old new fails = failed_apart (steps.ReadAll path) e old new tt fails
 
   -- at it or after it, if the path is another one
-  moving_stops : (durable : Bool) (file full : PlainTemp) (path bytes : List ℕ) (e : Error) (old made written new : Option (List LogItem)) → Spares path → MakesTemp cache file old made → Took file bytes full [] made written → StopsMoving durable full path bytes e written new
+  moving_stops : (durable : Bool) (file full : PlainTemp) (path bytes : List ℕ) (e : Error) (old made written new : Option (List LogItem)) → Spares path → MakesTemp cache file old made → Took file bytes full [] made written → StopsMoving durable full path e written new
       → Fixes AllApart old new
-  moving_stops durable file full path bytes e old made written new spares making took (inl fails) = early_stops (syncs_first durable bytes) file full bytes e old made written new making took fails
+  moving_stops durable file full path bytes e old made written new spares making took (inl fails) = early_stops file full bytes e old made written new making took fails
   moving_stops durable file full path bytes e old made written new spares making took (inr (synced, syncs, rest)) =
       fixes_then (Full full bytes) (IfSpared full) AllApart old written new (full_apart file full bytes old made written making took)
-      (fixes_then (IfSpared full) (IfSpared full) (IfSpared full) written synced new (temp_sync_apart (syncs_first durable bytes) full written synced syncs) (by rest)
+      (fixes_then (IfSpared full) (IfSpared full) (IfSpared full) written synced new (temp_sync_apart full written synced syncs) (by rest)
       (λ w one two rooted a b temp. apart_join q one two (a temp) (b temp)))
       (λ w one two rooted a b. apart_join q one two a.0 (b a.1))
     where

@@ -5,11 +5,11 @@ use Rattle.cacache_core.specs.{declared.errors.{Fault.{Fault, TheVariants.{IsADi
 use Rattle.cacache_store.specs.declared.store.{log.LogItem.{LogItem}, plain.PlainTemp.{PlainTemp}}
 use Rattle.cacache_disk.specs.{declared.{luck.Luck.TheVariants.{Plain}, node.Node.{Node, TheVariants.{File}}}, LedTo.{folder, place, where_folder, file_at}, Rooted.{Rooted, is_folder}, Tree.{Tree, look}, Apply.{apply, unless}}
 use Rattle.cacache_disk.proofs.{FoundNodes.{and_then_ok, place_ok}, Standing.{upper_folder}}
-use Rattle.cacache_calls.specs.Runs.{Moves}
+use Rattle.cacache_calls.specs.{Runs.{Moves}, SingleSteps.{Does, FailsAt}}
 use Rattle.cacache_loss.specs.{declared.fixing.Place.{Place}, Fixing.{is_child_of}, Loss.{Loss, begins, lead_folders, left_at, node_left}, Moments.{Moment, lost_then}}
 use Rattle.cacache_loss.proofs.{KeptPaths.{cond_none, sync_fixes}, SyncedFolders.{IsFirm, left_firm}, UnchangedPaths.{bytes_same}}
 use Rattle.cacache_laws.proofs.trees.Members.{Member}
-use Rattle.cacache_keep.specs.{Losses.{IsFixedAt, WayFixed}, Syncing.{SyncsInTurn, StopsAbove, StopsNextSync, SyncsAbove, folders_above}, Rewriting.{StopsSecuring, StopsSyncing, StopsSyncingBucket, SyncsBucket, SyncsFolder, SyncsTemp, folder_of}}
+use Rattle.cacache_keep.specs.{Losses.{IsFixedAt, WayFixed}, Syncing.{SyncsInTurn, StopsAbove, StopsNextSync, SyncsAbove, folders_above}, Rewriting.{StopsSecuring, StopsSyncingBucket, SyncsBucket, SyncsFolder, folder_of}}
 use Rattle.cacache_keep.proofs.{Losses.{ApartSteps.{Fixes, fixes_none, fixes_step, fixes_then, later, later_split}, SettledBuckets.{StaysHeld, apart_held, held_then}}, Indexes.FoundBuckets.{Stays, stays_on}, TreeRuns.{Leads, leads_failed, leads_none, leads_step, leads_then}}
 use Rattle.cacache_store.specs.declared.store.answer.Answer.TheVariants as answers
 use Rattle.cacache_store.specs.declared.store.step.Step.TheVariants as steps
@@ -131,13 +131,11 @@ file_sync_keeps t path = by (file_at t path IsADirectory)
 
 -- ---- of the temporary file
 
-pub temp_synced : (durable : Bool) (file : PlainTemp) (old new : Option (List LogItem)) → SyncsTemp durable file old new → Leads Stays old new
-temp_synced true file old new does = leads_step Stays (steps.SyncTemp file) (answers.Synced file) old new does (λ t rooted e. temp_sync_keeps t file)
-temp_synced false file old new same = leads_none old new same
+pub temp_synced : (file : PlainTemp) (old new : Option (List LogItem)) → Does (steps.SyncTemp file) (answers.Synced file) old new → Leads Stays old new
+temp_synced file old new does = leads_step Stays (steps.SyncTemp file) (answers.Synced file) old new does (λ t rooted e. temp_sync_keeps t file)
 
-pub temp_unsynced : (durable : Bool) (file : PlainTemp) (e : Error) (old new : Option (List LogItem)) → StopsSyncing durable file e old new → Leads Stays old new
-temp_unsynced true file e old new fails = leads_failed Stays (steps.SyncTemp file) e old new fails (λ t. refl) (λ t fault rooted failed. temp_sync_keeps t file)
-temp_unsynced false file e old new fails = absurd fails
+pub temp_unsynced : (file : PlainTemp) (e : Error) (old new : Option (List LogItem)) → FailsAt (steps.SyncTemp file) e old new → Leads Stays old new
+temp_unsynced file e old new fails = leads_failed Stays (steps.SyncTemp file) e old new fails (λ t. refl) (λ t fault rooted failed. temp_sync_keeps t file)
 
 -- ---- of the folder
 

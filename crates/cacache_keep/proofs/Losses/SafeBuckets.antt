@@ -1,6 +1,5 @@
--- During a compaction that syncs a bucket's bytes before their move, it has its bytes or its compacted ones, in each moment and after each loss.
-use Rattle.std.proofs.Common.{◌≡◌, ◌⊎◌, inl, inr, ℕ, List, [], ◌∷◌, ◌++◌, Bool, true, false, ◌||◌, cond, Option, None, Some, Ok, refl, sym, ap, subst, ◌∙◌}
-use Rattle.std.specs.Prelude.{unwrap_or}
+-- During a compaction a bucket has its bytes or its compacted ones, in each moment and after each loss.
+use Rattle.std.{proofs.Common.{◌≡◌, ◌⊎◌, inl, inr, ℕ, List, [], ◌∷◌, ◌++◌, Bool, true, false, cond, Option, None, Some, Ok, refl, sym, ap, subst, ◌∙◌}, specs.Prelude.{unwrap_or}}
 use Rattle.cacache_core.specs.{declared.errors.{Error.{Error}, Fault.{Fault}}, PathNames.{Names, home_of, names_of}}
 use Rattle.cacache_store.specs.declared.store.answer.Answer.TheVariants as answers
 use Rattle.cacache_store.specs.declared.store.{log.LogItem.{LogItem}, plain.PlainTemp.{PlainTemp}}
@@ -10,11 +9,11 @@ use Rattle.cacache_disk.proofs.{PutNodes.{look-put}, Roots.{same_self}}
 use Rattle.cacache_calls.specs.{Runs.{Moves}, SingleSteps.{Does, FailsAt}}
 use Rattle.cacache_value.specs.Kinds.{Bucket as IsBucket, path_kind}
 use Rattle.cacache_loss.{specs.{declared.fixing.Place.{Place}, Fixing.{is_at, place_now}, Moments.{Moment, next}}, proofs.UnchangedPaths.{file_kept, name_kept}}
-use Rattle.cacache_laws.{specs.trees.Compacting.{compact_text}, proofs.trees.{Compactions.CompactTwice.{compact_again, compact_closes}, Led.{file_shown}}}
-use Rattle.cacache_keep.specs.{Compacting.{Bucket, CompactsBucket, CompactsEach, RewritesIf, StopsBucket, StopsUnchanged, is_loose}, Losses.{CompactsSo}, Rewriting.{MakesTemp, Rewrites, StopsMoving, StopsRewriting, SyncsTemp, Took, syncs_first}}
+use Rattle.cacache_laws.{specs.trees.Compacting.{compact_text}, proofs.trees.{Compactions.CompactTwice.{compact_again}, Led.{file_shown}}}
+use Rattle.cacache_keep.specs.{Compacting.{Bucket, CompactsBucket, CompactsEach, RewritesIf, StopsBucket, StopsUnchanged, is_loose}, Losses.{CompactsSo}, Rewriting.{MakesTemp, Rewrites, StopsMoving, StopsRewriting, Took}}
 use Rattle.cacache_keep.proofs.{Losses.{ApartSteps.{EachApart, IsWhole, Kept, named_there, step_kept, whole_still, Fixes, fixes_as, fixes_failed, fixes_none, fixes_step, fixes_then, later}, ApartBuckets.{Full, IfSpared, bucket_apart, bucket_stops, early_stops, folder_sync_apart, full_apart, making_stops, sync_apart, sync_stops, temp_sync_apart, unread_stops, unsecured_stops, writing_stops}, ApartCompactions.{above_apart, above_stops, finding_apart, finding_stops}}, NewBuckets.MovedFiles.{moved, unmoved}}
 
-module _ (durable : Bool) (cache : List ℕ) (home : Names) (is : home_of cache ≡ Some home) (q : Names) (kind : path_kind (Some home) q ≡ IsBucket) (bytes : List ℕ) (syncs : syncs_first durable bytes ≡ true) where
+module _ (durable : Bool) (cache : List ℕ) (home : Names) (is : home_of cache ≡ Some home) (q : Names) (kind : path_kind (Some home) q ≡ IsBucket) (bytes : List ℕ) where
   -- the bucket's bytes, or the compacted ones
   abbrev pub Good : List ℕ → Type 0
   Good y = (y ≡ bytes) ⊎ (y ≡ compact_text durable bytes)
@@ -22,15 +21,6 @@ module _ (durable : Bool) (cache : List ℕ) (home : Names) (is : home_of cache 
   lean_good : (y : List ℕ) → Good y → Good (compact_text durable y)
   lean_good y (inl e) = inr (ap (compact_text durable) e)
   lean_good y (inr e) = inr (ap (compact_text durable) e ∙ compact_again durable bytes)
-
-  -- these are synced before their move
-  or_true : (b : Bool) → (b || true) ≡ true
-  or_true true = refl
-  or_true false = refl
-
-  good_syncs : (y : List ℕ) → Good y → syncs_first durable y ≡ true
-  good_syncs y (inl e) = ap (syncs_first durable) e ∙ syncs
-  good_syncs y (inr e) = ap (syncs_first durable) e ∙ ap (λ b. durable || b) (compact_closes durable bytes ∙ syncs) ∙ or_true durable
 
   -- a file of these, and all of it is fixed
   abbrev pub GoodPlace : Place → Type 0
@@ -114,13 +104,12 @@ module _ (durable : Bool) (cache : List ℕ) (home : Names) (is : home_of cache 
       ∙ look-put (cut w.tree m.old) q (File x) q ∙ ap (λ b. cond b (Some (File x)) (look (cut w.tree m.old) q)) (same_self q) in
       (s, ((x, good, stands, rw (m.from, named, same_self q) (has.1 m.old m.from)), rw (m.from, named, same_self q) (was_or_now (w.fixed.names q) (place_now w.tree w.fixed q) s.1 s.0)))
 
-  abbrev SyncsIt : Bool → PlainTemp → Moment → Moves → Type 0
-  SyncsIt first full w moves = (is_at (names_of full.path) q ≡ false → EachApart q moves) × (first ≡ true → (from : Names) → names_of full.path ≡ Ok from → IsWhole (later w moves).fixed from)
+  abbrev SyncsIt : PlainTemp → Moment → Moves → Type 0
+  SyncsIt full w moves = (is_at (names_of full.path) q ≡ false → EachApart q moves) × ((from : Names) → names_of full.path ≡ Ok from → IsWhole (later w moves).fixed from)
 
-  temp_syncs : (first : Bool) (full : PlainTemp) (old new : Option (List LogItem)) → SyncsTemp first full old new → Fixes (SyncsIt first full) old new
-  temp_syncs true full old new does =
-      fixes_step (SyncsIt true full) (steps.SyncTemp full) (answers.Synced full) old new does (λ w rooted e. ((λ temp. (temp, tt)), λ yes from at. rw (at, same_self from) refl))
-  temp_syncs false full old new same = fixes_none (SyncsIt false full) old new same (λ w. ((λ temp. tt), λ no from at. absurd cc))
+  temp_syncs : (full : PlainTemp) (old new : Option (List LogItem)) → Does (steps.SyncTemp full) (answers.Synced full) old new → Fixes (SyncsIt full) old new
+  temp_syncs full old new does =
+      fixes_step (SyncsIt full) (steps.SyncTemp full) (answers.Synced full) old new does (λ w rooted e. ((λ temp. (temp, tt)), λ from at. rw (at, same_self from) refl))
 
   abbrev MovesIt : PlainTemp → List ℕ → Moment → Moves → Type 0
   MovesIt full x w moves = Good x → IsFull full x w → StaysSafe w moves
@@ -131,12 +120,12 @@ module _ (durable : Bool) (cache : List ℕ) (home : Names) (is : home_of cache 
   abbrev MovesFull : PlainTemp → List ℕ → Moment → Moves → Type 0
   MovesFull full x w moves = is_at (names_of full.path) q ≡ false → full.bytes ≡ Some x → SafeIf x w moves
 
-  synced_moved : (full : PlainTemp) (path x : List ℕ) (old synced late : Option (List LogItem)) → names_of path ≡ Ok q → SyncsTemp (syncs_first durable x) full old synced → Does (steps.Persist full path) answers.Done synced late
+  synced_moved : (full : PlainTemp) (path x : List ℕ) (old synced late : Option (List LogItem)) → names_of path ≡ Ok q → Does (steps.SyncTemp full) (answers.Synced full) old synced → Does (steps.Persist full path) answers.Done synced late
       → Fixes (MovesFull full x) old late
   synced_moved full path x old synced late named syncing moving =
-      fixes_then (SyncsIt (syncs_first durable x) full) (MovesIt full x) (MovesFull full x) old synced late (temp_syncs (syncs_first durable x) full old synced syncing)
+      fixes_then (SyncsIt full) (MovesIt full x) (MovesFull full x) old synced late (temp_syncs full old synced syncing)
       (fixes_step (MovesIt full x) (steps.Persist full path) answers.Done synced late moving (λ w rooted e good has. moved_safe full path x w named good e has))
-      (λ w one two rooted a b temp has good. safe_then w one two (apart_safe w one (a.0 temp)) (b good (has, a.1 (good_syncs x good))))
+      (λ w one two rooted a b temp has good. safe_then w one two (apart_safe w one (a.0 temp)) (b good (has, a.1)))
 
   rewrite_safe : (path x : List ℕ) (old new : Option (List LogItem)) → names_of path ≡ Ok q → Rewrites durable cache path x old new → Fixes (SafeIf x) old new
   rewrite_safe path x old new named r =
@@ -199,13 +188,13 @@ module _ (durable : Bool) (cache : List ℕ) (home : Names) (is : home_of cache 
   unmoved_safe : (full : PlainTemp) (path : List ℕ) (e : Error) (old new : Option (List LogItem)) → FailsAt (steps.Persist full path) e old new → Fixes StaysSafe old new
   unmoved_safe full path e old new fails = fixes_failed StaysSafe (steps.Persist full path) e old new fails (λ w s. s) (λ w fault rooted is. failed_safe full path w fault is)
 
-  moving_stops : (file full : PlainTemp) (path x : List ℕ) (e : Error) (old made written new : Option (List LogItem)) → names_of path ≡ Ok q → MakesTemp cache file old made → Took file x full [] made written → StopsMoving durable full path x e written new → Fixes (SafeIf x) old new
+  moving_stops : (file full : PlainTemp) (path x : List ℕ) (e : Error) (old made written new : Option (List LogItem)) → names_of path ≡ Ok q → MakesTemp cache file old made → Took file x full [] made written → StopsMoving durable full path e written new → Fixes (SafeIf x) old new
   moving_stops file full path x e old made written new named making took (inl fails) =
-      fixes_as (λ w moves. EachApart q moves) (SafeIf x) old new (early_stops cache home is q IsBucket kind (λ e. cc) (syncs_first durable x) file full x e old made written new making took fails) (λ w moves rooted apart good. apart_safe w moves apart)
+      fixes_as (λ w moves. EachApart q moves) (SafeIf x) old new (early_stops cache home is q IsBucket kind (λ e. cc) file full x e old made written new making took fails) (λ w moves rooted apart good. apart_safe w moves apart)
   moving_stops file full path x e old made written new named making took (inr (synced, done, inl fails)) =
       fixes_then (Full cache home is q IsBucket kind (λ e. cc) full x) (λ w moves. is_at (names_of full.path) q ≡ false → StaysSafe w moves) (SafeIf x) old written new (full_apart cache home is q IsBucket kind (λ e. cc) file full x old made written making took)
       (fixes_then (IfSpared cache home is q IsBucket kind (λ e. cc) full) StaysSafe (λ w moves. is_at (names_of full.path) q ≡ false → StaysSafe w moves) written synced new
-      (temp_sync_apart cache home is q IsBucket kind (λ e. cc) (syncs_first durable x) full written synced done) (unmoved_safe full path e synced new fails)
+      (temp_sync_apart cache home is q IsBucket kind (λ e. cc) full written synced done) (unmoved_safe full path e synced new fails)
       (λ w one two rooted a b temp. safe_then w one two (apart_safe w one (a temp)) b))
       (λ w one two rooted a b good. safe_then w one two (apart_safe w one a.0) (b a.1))
   moving_stops file full path x e old made written new named making took (inr (synced, done, inr (late, moves, fails))) =

@@ -7,7 +7,7 @@ use Rattle.cacache_disk.specs.{declared.{node.Node.TheVariants.{File, Folder}, l
 use Rattle.cacache_disk.proofs.{Maps.{same_path-true}, Roots.{same_self}, Standing.{upper_folder}}
 use Rattle.cacache_laws.specs.trees.{Compacting.{compact_text}, Compacted.{Compacted, CutShort}}
 use Rattle.cacache_laws.proofs.{trees.{Compactions.{LeanTrees.{Becomes, same_bytes as same_file, compacted_more, compacted_none, cut_later, cut_short}, CompactTwice.{compact_again}}, Led.{file_shown}}, Readings.ReadAnswers.{reading_keeps}, Calls.InParts.{writing_keeps}}
-use Rattle.cacache_keep.specs.{Compacting.{Bucket, is_loose, same_bytes, CompactsBucket, CompactsEach, RewritesIf, StopsBucket, StopsCompactingEach}, Rewriting.{MakesTemp, Rewrites, StopsMaking, StopsRewriting, StopsWriting, SyncsTemp, Took, syncs_first}}
+use Rattle.cacache_keep.specs.{Compacting.{Bucket, is_loose, same_bytes, CompactsBucket, CompactsEach, RewritesIf, StopsBucket, StopsCompactingEach}, Rewriting.{MakesTemp, Rewrites, StopsMaking, StopsRewriting, StopsWriting, Took}}
 use Rattle.cacache_keep.proofs.{Indexes.FoundBuckets.{IsBucketFile, Stays, stays_on}, NewBuckets.{MovedFiles.{MovedTo, moved, unmoved}, Rewritten.{Has, HasTemp, IsRewritten, TookSo, folder_made, left_over, rewritten, temp_failed, temp_made, writes_stay, writes_take}}, Losses.FixedFolders.{bucket_synced, bucket_unsynced, folder_synced, folder_unsynced, temp_synced, temp_unsynced}, TreeRuns.{Leads, leads_as, leads_failed, leads_none, leads_step, leads_then}, Asked.{both_parts}}
 use Rattle.cacache_store.specs.declared.store.{log.LogItem.{LogItem}, plain.PlainTemp.{PlainTemp}}
 use Rattle.cacache_calls.specs.{SingleSteps.{Does}, StepPaths.{temp_folder, temp_path}}
@@ -80,12 +80,12 @@ module _ (durable : Bool) (cache : List ℕ) (home : Names) (is : home_of cache 
   Anew path bytes t u = Housed home t → IsRewritten durable home path bytes t u
 
   -- so it is once the temporary file is moved
-  moved_leads : (path bytes : List ℕ) (file full : PlainTemp) (old made written synced late : Option (List LogItem)) → MakesTemp cache file old made → Took file bytes full [] made written → SyncsTemp (syncs_first durable bytes) full written synced
+  moved_leads : (path bytes : List ℕ) (file full : PlainTemp) (old made written synced late : Option (List LogItem)) → MakesTemp cache file old made → Took file bytes full [] made written → Does (steps.SyncTemp full) (answers.Synced full) written synced
       → Does (steps.Persist full path) answers.Done synced late → Leads (Anew path bytes) old late
   moved_leads path bytes file full old made written synced late making writing syncing moving =
       leads_then (Temped file) (λ t u. (Written file bytes full [] t t) × MovedTo full path t u) (Anew path bytes) old made late (temp_leads file old made making)
       (leads_then (Written file bytes full []) (MovedTo full path) (λ t u. (Written file bytes full [] t t) × MovedTo full path t u) made written late (took_leads file full bytes [] made written writing)
-      (leads_then Stays (MovedTo full path) (MovedTo full path) written synced late (temp_synced (syncs_first durable bytes) full written synced syncing)
+      (leads_then Stays (MovedTo full path) (MovedTo full path) written synced late (temp_synced full written synced syncing)
       (leads_step (MovedTo full path) (steps.Persist full path) answers.Done synced late moving (λ t rooted e. moved full path t e))
       (λ t u v rooted next same two. subst (λ (x : Tree). MovedTo full path x v) same two))
       (λ t u v rooted next one two. ((refl, one.1), subst (λ (x : Tree). MovedTo full path x v) one.0 two)))
@@ -228,11 +228,11 @@ module _ (durable : Bool) (cache : List ℕ) (home : Names) (is : home_of cache 
   rewriting_leads b e old new (inr (file, made, making, inl writing)) = cuts_anew b old new (temp_left file old made new making (write_failed file (compact_text durable b.1) e made new writing))
   rewriting_leads b e old new (inr (file, made, making, inr (full, written, took, inl unsynced))) =
       cuts_anew b old new (temp_left file old made new making
-      (leads_then Stays Stays Stays made written new (took_keeps file full (compact_text durable b.1) [] made written took) (temp_unsynced (syncs_first durable (compact_text durable b.1)) full e written new unsynced) stays_on))
+      (leads_then Stays Stays Stays made written new (took_keeps file full (compact_text durable b.1) [] made written took) (temp_unsynced full e written new unsynced) stays_on))
   rewriting_leads b e old new (inr (file, made, making, inr (full, written, took, inr (synced, syncs, inl fails)))) =
       cuts_anew b old new (temp_left file old made new making
       (leads_then Stays Stays Stays made written new (took_keeps file full (compact_text durable b.1) [] made written took)
-      (leads_then Stays Stays Stays written synced new (temp_synced (syncs_first durable (compact_text durable b.1)) full written synced syncs)
+      (leads_then Stays Stays Stays written synced new (temp_synced full written synced syncs)
       (leads_failed Stays (steps.Persist full b.0) e synced new fails (λ t. refl) (λ t fault rooted failed. unmoved full b.0 fault t failed)) stays_on) stays_on))
   rewriting_leads b e old new (inr (file, made, making, inr (full, written, took, inr (synced, syncs, inr (late, moves, unsecured))))) =
       leads_then (Anew b.0 (compact_text durable b.1)) Stays (CutsAnew b) old late new (moved_leads b.0 (compact_text durable b.1) file full old made written synced late making took syncs moves)

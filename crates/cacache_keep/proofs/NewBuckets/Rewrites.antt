@@ -7,7 +7,7 @@ use Rattle.cacache_store.specs.{declared.store.{log.LogItem.{LogItem}, plain.Pla
 use Rattle.cacache_calls.specs.{declared.answers.Refusal.{Refusal}, Answers.{bytes_in, done_in, synced_in, temp_in, written_in}, Common.{fails, refuse}, Runs.{EndsAs, Moves}, SingleSteps.{Does, FailsAt}}
 use Rattle.cacache_laws.{proofs.trees.Logged.{gains_join}, specs.trees.{Compacting.{compact_text}, Temporary.{total}}}
 use Rattle.cacache_jobs.specs.Brought.{Brings, EndsRefused}
-use Rattle.cacache_keep.specs.{Rewriting.{MakesTemp, Rewrites, StopsMoving, StopsRewriting, StopsSecuring, StopsSyncing, StopsWriting, SyncsFolder, SyncsTemp, Takes, Took, SyncsBucket, syncs_first}, Compacting.{Bucket, Changes, CompactsAll, CompactsBucket, CompactsEach, RewritesIf, Saves, Settles, StopsBucket, StopsCompactingEach, StopsSettling, is_loose, same_bytes, saved}, declared.settling.Lean.{Lean}}
+use Rattle.cacache_keep.specs.{Rewriting.{MakesTemp, Rewrites, StopsMoving, StopsRewriting, StopsSecuring, StopsWriting, SyncsFolder, Takes, Took, SyncsBucket}, Compacting.{Bucket, Changes, CompactsAll, CompactsBucket, CompactsEach, RewritesIf, Saves, Settles, StopsBucket, StopsCompactingEach, StopsSettling, is_loose, same_bytes, saved}, declared.settling.Lean.{Lean}}
 use Rattle.cacache_keep.proofs.{Collections.Sweeps.{refused_fails, Refuses, temp_refused, total_more}, Asked.{kept, passed}}
 use Rattle.cacache_core.specs.declared.errors.Fault.TheVariants as faults
 use Rattle.cacache_store.specs.declared.store.answer.Answer.TheVariants as answers
@@ -113,9 +113,9 @@ brings_stops seen path t (Err e) old new brings fits logs = made_stops path t (t
 
 -- ---- after the writes
 
-module _ (durable : Bool) (cache path bytes : List ℕ) (file full ready : PlainTemp) (old made written synced : Option (List LogItem)) (makes : MakesTemp cache file old made) (writes : Took file bytes full [] made written) (syncs : SyncsTemp (syncs_first durable bytes) full written synced) (same : ready ≡ full) where
+module _ (durable : Bool) (cache path bytes : List ℕ) (file full ready : PlainTemp) (old made written synced : Option (List LogItem)) (makes : MakesTemp cache file old made) (writes : Took file bytes full [] made written) (syncs : Does (steps.SyncTemp full) (answers.Synced full) written synced) (same : ready ≡ full) where
   -- the error ended what comes there
-  stops_behind : (e : Error) (new : Option (List LogItem)) → StopsMoving durable full path bytes e written new → StopsRewriting durable cache path bytes e old new
+  stops_behind : (e : Error) (new : Option (List LogItem)) → StopsMoving durable full path e written new → StopsRewriting durable cache path bytes e old new
   stops_behind e new stop = inr (file, made, makes, inr (full, written, writes, stop))
 
   -- the file that was to be moved is the one that was written
@@ -144,7 +144,7 @@ module _ (durable : Bool) (cache path bytes : List ℕ) (file full ready : Plain
   }
 
 -- the file wasn't synced
-pub unsynced : (durable : Bool) (cache path bytes : List ℕ) (file full : PlainTemp) (old made written : Option (List LogItem)) (e : Error) (new : Option (List LogItem)) → MakesTemp cache file old made → Took file bytes full [] made written → StopsSyncing (syncs_first durable bytes) full e written new
+pub unsynced : (durable : Bool) (cache path bytes : List ℕ) (file full : PlainTemp) (old made written : Option (List LogItem)) (e : Error) (new : Option (List LogItem)) → MakesTemp cache file old made → Took file bytes full [] made written → FailsAt (steps.SyncTemp full) e written new
     → StopsRewriting durable cache path bytes e old new
 unsynced durable cache path bytes file full old made written e new makes writes stop = inr (file, made, makes, inr (full, written, writes, inl stop))
 

@@ -1,6 +1,6 @@
 use Rattle.std.proofs.Common.{◌≡◌, ℕ, List, length, inl, inr, map, string_bytes, rules, subst, ◌∙◌}
 use Rattle.cacache_keep.{specs.Sweeping.{RemovesFiles, RemovesSized, StopsSized, StopsSweeping, swept_folder}, proofs.{Collections.Sweeps.{counted_all}, Stopped.{error_as}}}
-use Rattle.cacache_keep.proofs.sweeping.sweep.Goals as goal
+use Rattle.cacache_keep.proofs.sweeping.sweep_open.Goals as goal
 
 pub returns-in_err-files-clause-stops : goal.returns-in_err-files-clause-stops
 returns-in_err-files-clause-stops g c =

@@ -1,0 +1,10 @@
+use Rattle.std.proofs.Common.{◌≡◌, map}
+use Rattle.cacache_entry.specs.View.{found_view}
+use Rattle.cacache_jobs.specs.Sites.{site_of}
+use Rattle.cacache_keep.specs.Parting.{Parts}
+use Rattle.cacache_keep.proofs.parting.part.Given as goal
+
+abbrev pub invariant-loop-entry : goal.invariant-loop-entry
+invariant-loop-entry g l =
+    (l.env.names ≡ l.fn.env.names) × (l.env.base ≡ l.fn.env.base)
+    × Parts l.durable (site_of l.cache l.fn.env.base 0) (map found_view l.yielded) (map found_view l.dropped.items) (map found_view l.left.items) (g.S.Store.log l.fn.env.store) (g.S.Store.log l.env.store)
