@@ -94,7 +94,11 @@ impl<'a, R: Wait, S: Store<Temp = T>, C: Clock, N: Names, T: Drop> Future
         let mut guard = shared.kept.lock(rt);
         let kept = &mut *guard;
         match commit_held(self.env, &mut kept.core, &mut kept.temp, &mut self.about) {
-            None => cx.register(&shared.source, &mut kept.waker),
+            None => {
+                let polled = cx.register(&shared.source, &mut kept.waker);
+                shared.release(guard);
+                polled
+            }
             Some(answer) => {
                 set(&mut self.about, None);
                 Poll::Ready(answer)

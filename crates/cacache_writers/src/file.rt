@@ -10,10 +10,9 @@ use crate::worker::Worker;
 use cacache_core::errors::Result;
 use cacache_core::integrity::Algorithm;
 use cacache_polled::Request as Asked;
-use futures::task::{Context, Poll, Source};
+use futures::task::{Context, Poll};
 use std::alloc::Global;
-use std::sync::atomic::AtomicBool;
-use std::sync::{Arc, Mutex, Wait};
+use std::sync::{Arc, Wait};
 
 /// A temporary file that a worker writes. The polls hand the work out and answer with its result; one that is pending
 /// wakes its task when the work is done. Dropping it ends its workers, and drops the file unless a worker has it.
@@ -35,13 +34,7 @@ impl<T: Drop> PolledFile<T> {
     pub fn new(alloc: Global, algorithm: Algorithm, temp: T) -> Result<PolledFile<T>>
         ensures err { IfErr result (λ e. e ≡ OutOfMemory) }
     {
-        let kept = Mutex::new(Kept::new(algorithm, temp));
-        let shared = Shared {
-            source: Source::new(),
-            is_left: AtomicBool::new(false),
-            kept,
-        };
-        let shared = Arc::new(alloc, shared)?;
+        let shared = Arc::new(alloc, Shared::new(Kept::new(algorithm, temp)))?;
         Ok(PolledFile { shared, alloc })
     }
 
@@ -61,18 +54,12 @@ impl<T: Drop> PolledFile<T> {
         let shared: &Shared<T> = &self.shared;
         let mut guard = shared.kept.lock(rt);
         let kept = &mut *guard;
-        match kept.poll(self.alloc, asked) {
-            Ok(Some(count)) => Poll::Ready(Ok(count)),
-            Ok(None) => kept.wait(cx, &shared.source),
-            Err(error) => Poll::Ready(Err(error)),
-        }
+        let polled = kept.answer(self.alloc, asked, cx, &shared.source);
+        shared.release(guard);
+        polled
     }
 
-    /// Hands these bytes to a worker, and is pending; polled again with the same bytes, it answers how many the
-    /// worker took. For no bytes it answers at once.
-    ///
-    /// `IoError` with `OtherBytes` if an earlier write isn't answered yet, with `Closed` after a close or a commit,
-    /// and otherwise with the worker's fault. `OutOfMemory` changes nothing, or there was no memory for a message.
+    /// What `Writer::poll_write` does.
     pub fn poll_write<R: Wait>(
         &mut self,
         rt: &R,
@@ -85,9 +72,7 @@ impl<T: Drop> PolledFile<T> {
         self.poll(rt, cx, Asked::Write(data))
     }
 
-    /// Has a worker hand on what is buffered. A write that isn't answered yet stays.
-    ///
-    /// `IoError` has the worker's fault.
+    /// What `Writer::poll_flush` does.
     pub fn poll_flush<R: Wait>(&mut self, rt: &R, cx: &mut Context<'_>) -> Poll<Result<()>>
         ensures armed { OnPending result (IsArmed cx.new) }
         ensures kept { Keeps cx.old cx.new }
@@ -95,9 +80,7 @@ impl<T: Drop> PolledFile<T> {
         without_count(self.poll(rt, cx, Asked::Flush))
     }
 
-    /// Has a worker remove the file; then no more work is taken.
-    ///
-    /// `IoError` says that it wasn't removed, and is answered once.
+    /// What `Writer::poll_close` does.
     pub fn poll_close<R: Wait>(&mut self, rt: &R, cx: &mut Context<'_>) -> Poll<Result<()>>
         ensures armed { OnPending result (IsArmed cx.new) }
         ensures kept { Keeps cx.old cx.new }

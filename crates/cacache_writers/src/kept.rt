@@ -77,6 +77,24 @@ impl<T: Drop> Kept<T> {
         }
     }
 
+    /// One poll by a task, which waits if the core waits.
+    pub(crate) fn answer(
+        &mut self,
+        alloc: Global,
+        poll: Request<'_>,
+        cx: &mut Context<'_>,
+        source: &Source,
+    ) -> Poll<Result<usize>>
+        ensures armed { OnPending result (IsArmed cx.new) }
+        ensures kept { Keeps cx.old cx.new }
+    {
+        match self.poll(alloc, poll) {
+            Ok(Some(count)) => Poll::Ready(Ok(count)),
+            Ok(None) => self.wait(cx, source),
+            Err(error) => Poll::Ready(Err(error)),
+        }
+    }
+
     /// Takes the work, and the file with it.
     pub fn take(&mut self) -> (Option<Work>, Option<T>)
         ensures work { result.0 ≡ self.old.work }

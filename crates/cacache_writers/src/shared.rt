@@ -3,12 +3,15 @@ ghost use Rattle.std.specs.Prelude.{◌≡◌, IfSome, IsTrue, None};
 ghost use Rattle.cacache_polled.specs.declared.kinds.Completion.TheVariants.{Gone};
 
 use crate::kept::{Kept, Told};
+use crate::work::Taken;
 use cacache_core::keeping::let_go;
-use cacache_polled::{Completion, Work};
+use cacache_polled::Completion;
 use futures::task::Source;
+use std::alloc::Global;
 use std::snapshot::Snapshot;
 use std::sync::atomic::{AtomicBool, Ordering};
-use std::sync::{Mutex, Wait};
+use std::sync::{Arc, Mutex, MutexGuard, Wait};
+use std::thread::Parker;
 
 /// How often a drop tries the lock.
 const TRIES: u32 = 1000;
@@ -20,10 +23,22 @@ pub struct Shared<T> {
     pub source: Source,
     /// The polled file was dropped.
     pub is_left: AtomicBool,
+    /// Where the thread of `Workers` sleeps that does the work, if one does.
+    pub(crate) bell: Mutex<Option<Arc<Parker, Global>>>,
     pub kept: Mutex<Kept<T>>,
 }
 
 impl<T: Drop> Shared<T> {
+    /// Nothing was asked yet, and nobody sleeps for it.
+    pub(crate) fn new(kept: Kept<T>) -> Shared<T> {
+        Shared {
+            source: Source::new(),
+            is_left: AtomicBool::new(false),
+            bell: Mutex::new(None),
+            kept: Mutex::new(kept),
+        }
+    }
+
     /// Whether no work comes any more: the polled file was dropped, or its core is closed.
     pub(crate) fn is_over<R: Wait>(&self, rt: &R) -> bool {
         self.is_left.load(Ordering::SeqCst) || self.kept.lock(rt).core.is_closed()
@@ -35,8 +50,50 @@ impl<T: Drop> Shared<T> {
     }
 
     /// Takes the work, and the file with it.
-    pub(crate) fn take<R: Wait>(&self, rt: &R) -> (Option<Work>, Option<T>) {
+    pub(crate) fn take<R: Wait>(&self, rt: &R) -> Taken<T> {
         self.kept.lock(rt).take()
+    }
+
+    /// Takes the work, and the file with it. None if no work comes any more. It waits for nobody: while the lock is
+    /// taken there is no work, and who releases it rings the bell.
+    pub(crate) fn take_free(&self) -> Option<Taken<T>> {
+        if self.is_left.load(Ordering::SeqCst) {
+            return None;
+        }
+        let Some(mut guard) = self.kept.try_lock() else {
+            return Some((None, None));
+        };
+        let kept = &mut *guard;
+        if kept.core.is_closed() {
+            None
+        } else {
+            Some(kept.take())
+        }
+    }
+
+    /// From now on this bell rings.
+    pub(crate) fn hang<R: Wait>(&self, rt: &R, bell: Arc<Parker, Global>) {
+        let mut guard = self.bell.lock(rt);
+        *guard = Some(bell);
+    }
+
+    /// Wakes the thread of `Workers` that does the work, if one does.
+    fn ring(&self) {
+        let Some(guard) = self.bell.try_lock() else {
+            return;
+        };
+        if let Some(bell) = &*guard {
+            bell.unpark();
+        }
+    }
+
+    /// Releases the lock, and rings the bell if work is out.
+    pub(crate) fn release(&self, guard: MutexGuard<'_, Kept<T>>) {
+        let is_out = guard.work.is_some();
+        drop(guard);
+        if is_out {
+            self.ring();
+        }
     }
 
     /// Ends the work that was taken out. The file is dropped if the polled file was dropped meanwhile.
@@ -68,9 +125,10 @@ impl<T: Drop> Shared<T> {
         self.is_left.store(true, Ordering::SeqCst);
         for _ in 0..TRIES {
             if self.lets_go() {
-                return;
+                break;
             }
         }
+        self.ring();
     }
 
     /// Ends the work that no worker has taken.

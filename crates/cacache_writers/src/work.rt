@@ -54,10 +54,13 @@ fn done<T: RemovableTemp>(work: Work, temp: Option<T>) -> (Option<T>, Completion
     }
 }
 
+/// Work that was taken, and its file.
+pub(crate) type Taken<T> = (Option<Work>, Option<T>);
+
 /// Takes work out, does it, and reports how it ended. None if no work was out.
 pub(crate) fn work_by<
     T: RemovableTemp,
-    Take: FnOnce() -> (Option<Work>, Option<T>),
+    Take: FnOnce() -> Taken<T>,
     End: FnOnce(Option<T>, Completion) -> Told<T>,
 >(take: Take, end: End) -> Option<Told<T>>
     requires take { Take.IsAlwaysCallable take }

@@ -1,12 +1,13 @@
 //! The worker of a polled file.
 ghost use Rattle.std.specs.Prelude.{◌≡◌};
-ghost use Rattle.cacache_writers.specs.{declared.worker.Turned.TheVariants.{Over}, Turning.{CountsAsks, TurnsTo}};
+ghost use Rattle.cacache_writers.specs.{declared.worker.Turned.TheVariants.{Over}, Turning.{CountsAsks, FreelyTurns, TurnsTo}};
 
 use crate::kept::Told;
 use crate::removal::RemovableTemp;
 use crate::shared::Shared;
-use crate::work::work_by;
+use crate::work::{Taken, work_by};
 use cacache_jobs::{Gate, Pass};
+use cacache_polled::Completion;
 use std::alloc::Global;
 use std::sync::{Arc, Wait};
 use std::thread;
@@ -73,7 +74,38 @@ impl<T: RemovableTemp> Worker<T> {
     /// `Wait` is for the lock and for sleeping, `Clock` for how long. Unless its gate says `Quit`, it doesn't
     /// return before the polled file is dropped, committed or closed.
     pub fn run<R: Wait + Clock, G: Gate>(mut self, rt: &R, gate: &G) {
-        run_by(rt, |_idle| Duration::from_millis(1), || self.turn(rt, gate))
+        let rest = || thread::sleep(rt, Duration::from_millis(1));
+        run_by(rt, rest, || self.turn(rt, gate))
+    }
+
+    /// A turn for a thread of `Workers`, which no gate holds back. A polled file whose lock is taken, as by a commit, has
+    /// no work then.
+    pub(crate) fn free_turn<R: Wait>(&self, rt: &R) -> Turned {
+        let shared: &Shared<T> = &self.shared;
+        free_turn_by(
+            || shared.take_free(),
+            |temp, completion| shared.end(rt, temp, completion),
+        )
+    }
+}
+
+/// A turn that does what work it can take at once.
+fn free_turn_by<
+    T: RemovableTemp,
+    Take: FnOnce() -> Option<Taken<T>>,
+    End: FnOnce(Option<T>, Completion) -> Told<T>,
+>(take: Take, end: End) -> Turned
+    requires take { Take.IsAlwaysCallable take }
+    requires end { End.IsAlwaysCallable end }
+    ensures turns { FreelyTurns T.seen T.contents T.writes T.removes (Take.post take)
+        (End.post end) result }
+{
+    let Some(taken) = take() else {
+        return Turned::Over;
+    };
+    match work_by(move || taken, end) {
+        Some(_told) => Turned::Did,
+        None => Turned::NoWork,
     }
 }
 
@@ -122,25 +154,20 @@ fn turn_by<
     }
 }
 
-/// Takes turns until one is over. After each that had nothing to do it sleeps, for as long as the pause says by the
-/// number of those in a row.
-pub(crate) fn run_by<R: Wait + Clock, Pause: Fn(u32) -> Duration, Turn: FnMut() -> Turned>(
+/// Takes turns until one is over, and rests after each that had nothing to do.
+pub(crate) fn run_by<R: Wait, Rest: Fn(), Turn: FnMut() -> Turned>(
     rt: &R,
-    pause: Pause,
+    rest: Rest,
     mut turn: Turn,
 )
-    requires pause { Pause.IsAlwaysCallable pause }
+    requires rest { Rest.IsAlwaysCallable rest }
     requires turn { Turn.IsAlwaysCallable turn }
     ensures over { (before after : Turn) × Turn.step before Over after }
 {
-    let mut idle = 0;
     for _ in rt.forever() {
         match turn() {
-            Turned::Did => idle = 0,
-            Turned::NoWork | Turned::NotYet => {
-                thread::sleep(rt, pause(idle));
-                idle = idle.saturating_add(1);
-            }
+            Turned::Did => {}
+            Turned::NoWork | Turned::NotYet => rest(),
             Turned::Over => return,
         }
     }

@@ -1,10 +1,10 @@
 //! Contents that are written by polls.
-ghost use Rattle.std.specs.{Prelude.{◌≡◌, None, Some, IfOk, IfErr, vec_len}, Arc.{arc_value}};
+ghost use Rattle.std.specs.{Prelude.{◌≡◌, None, Some, IfOk, IfErr}, Arc.{arc_value}};
 ghost use Rattle.futures.specs.{Poll.{OnPending}, Task.{IsArmed, Keeps}};
 ghost use Rattle.cacache_core.specs.declared.errors.Error.TheVariants.{OutOfMemory};
 ghost use Rattle.cacache_sync.specs.put.Options.{nothing_said, saying};
 ghost use Rattle.cacache_async.specs.Waiting.{Waits};
-ghost use Rattle.cacache_writers.specs.Turning.{IsWorkerOf};
+ghost use Rattle.cacache_writers.specs.{Copying.{IsFresh}, Turning.{IsWorkerOf}};
 
 use crate::about::About;
 use crate::committing::{AsyncWriterCloseFuture, WriterCommitFuture};
@@ -102,7 +102,8 @@ impl<T: Drop> Writer<T> {
     }
 
     /// Hands these bytes to a worker, and is pending; polled again with the same bytes, it answers how many the
-    /// worker took. For no bytes it answers at once.
+    /// worker took. For no bytes it answers at once. While a flush is out it is only pending, also for no bytes, and
+    /// hands nothing over.
     ///
     /// ```
     /// let data = b"my data";
@@ -147,8 +148,8 @@ impl<T: Drop> Writer<T> {
         WriteAllFuture::new(rt, alloc, self, data)
     }
 
-    /// Writes all that the reader gives, as a future, and answers how many bytes that were. A poll reads 64 KiB at most,
-    /// and waits for the reader.
+    /// Writes all that the reader gives, as a future, and answers how many bytes that were. A poll reads once, and
+    /// waits for the reader. Bytes are written 64 KiB at a time, and fewer once the reader has ended or failed.
     ///
     /// ```
     /// let reader: &[u8] = b"my data";
@@ -156,8 +157,10 @@ impl<T: Drop> Writer<T> {
     /// block_on(&rt, writer.commit(&rt, &mut env))??; // nothing was saved before
     /// ```
     ///
-    /// `IoError` has the fault of a read; a read that was interrupted is tried again. Other errors are those of
-    /// `write_all`. After an error the file has a beginning of the bytes.
+    /// `IoError` says that a read failed or had no memory, and its text that it was the reader, and how. A read that was
+    /// interrupted is tried again. All earlier bytes were written then, so a copy that goes on with the same reader loses
+    /// none. Other errors are those of `write_all`. After them, and if the future is dropped, the last 64 KiB that were
+    /// read may be missing.
     pub fn copy_from<'a, R: Wait, F: Read + Drop>(
         &'a mut self,
         rt: &'a R,
@@ -165,13 +168,14 @@ impl<T: Drop> Writer<T> {
     ) -> CopyFuture<'a, R, Writer<T>, F>
         ensures lent { (result.writer.ghost_name ≡ self.entry.ghost_name)
             × (result.writer.now ≡ self.entry.now) }
-        ensures waits { (result.reader ≡ reader) × (vec_len result.buffer ≡ 0) }
+        ensures waits { (result.reader ≡ reader) × IsFresh result.gathered }
     {
         let alloc = self.file.alloc;
         CopyFuture::new(rt, alloc, self, reader)
     }
 
-    /// Has a worker hand on what is buffered. A write that isn't answered yet stays.
+    /// Has a worker hand on what is buffered. A write that isn't answered yet stays. Once no work comes any more it
+    /// answers Ok, also if a worker quit with work undone.
     ///
     /// `IoError` has the worker's fault.
     pub fn poll_flush<R: Wait>(&mut self, rt: &R, cx: &mut Context<'_>) -> Poll<Result<()>>
@@ -181,7 +185,8 @@ impl<T: Drop> Writer<T> {
         self.file.poll_flush(rt, cx)
     }
 
-    /// Has a worker remove the temporary file; nothing is committed.
+    /// Has a worker remove the temporary file; nothing is committed. While other work is out it is only pending: a
+    /// later poll begins the removal. If a worker quit with work undone, it answers Ok, and the file goes with the writer.
     ///
     /// `IoError` says that it wasn't removed, and is answered once.
     pub fn poll_close<R: Wait>(&mut self, rt: &R, cx: &mut Context<'_>) -> Poll<Result<()>>

@@ -1,4 +1,4 @@
-use Rattle.std.proofs.{Common.{◌≡◌, ℕ, List, length, drop, min, refl, sym, ap, subst, inl, inr, ◌∙◌, ◌-◌, ◌+◌, arith}, lemmas.{Grind.{common_steps}, List.{length-drop, drop-drop, drop_min}}}
+use Rattle.std.proofs.{Common.{◌≡◌, ℕ, List, length, drop, min, sym, ap, subst, inl, inr, ◌∙◌, ◌-◌, ◌+◌, arith}, lemmas.{Grind.{common_steps}, List.{length-drop, drop-drop, drop_min}}}
 use Rattle.std.specs.Prelude.{Result, ⊤}
 use Rattle.futures.specs.declared.task.Poll.{Poll}
 use Rattle.cacache_core.specs.declared.errors.Error.{Error}
