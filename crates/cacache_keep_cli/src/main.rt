@@ -1,4 +1,4 @@
-//! Verifies a cache, or removes the contents that no entry has.
+//! Looks after a cache: verifies and repairs it, and removes what nobody needs.
 #![tactic(auto)]
 
 use cacache::env::folders;

@@ -7,4 +7,7 @@ pub mod Naming
 pub mod FurtherAsked
 pub mod TakenFiles
 pub mod Missing
-pub mod PruneAsked
+pub mod PruneTold
+pub mod Numbers
+pub mod Roots
+pub mod Refused

@@ -1,5 +1,5 @@
 -- What the store says of a path, and whether nothing is there.
-use Rattle.std.proofs.Common.{◌≡◌, ◌⊎◌, inl, inr, ℕ, List, Option, Some, None, IfNone, IfSome, Ok, Err, Bool, true, false, not, refl, subst}
+use Rattle.std.proofs.Common.{◌≡◌, ◌⊎◌, inl, inr, ℕ, List, Option, Some, IfSome, Ok, Err, Bool, true, false, not, refl, subst}
 use Rattle.cacache_store.specs.declared.store.answer.Answer.TheVariants as answers
 use Rattle.cacache_store.specs.declared.store.step.Step.TheVariants as steps
 use Rattle.cacache_store.specs.{declared.store.log.LogItem.{LogItem}, Fits.{Fits, Logs}, Plain.{PlainAnswer}}
@@ -32,12 +32,6 @@ unsaid path p t refusal old new same is fits logs = subst (λ q. Said q false ol
 
 -- ---- which cache the words name
 
--- what holds of the cache that was found holds of the one that a name alone asks for
-pub found_alone : (o : Option (List ℕ)) (cache asked : List ℕ) (Q : List ℕ → Type 0) → IfNone o (cache ≡ asked) → Q cache → IfNone o (Q asked)
-found_alone None cache asked Q is q = subst Q is q
-found_alone (Some key) cache asked Q is q = tt
-
--- or of the one after `--list`
-pub found_listed : (o : Option (List ℕ)) (cache : List ℕ) (Q : List ℕ → Type 0) → IfSome o (λ key. cache ≡ key) → Q cache → IfSome o Q
-found_listed None cache Q is q = tt
-found_listed (Some key) cache Q is q = subst Q is q
+-- what holds of the cache that was found holds of the one that is asked for
+pub found_asked : (asked : Option (List ℕ)) (cache : List ℕ) (Q : List ℕ → Type 0) → Some cache ≡ asked → Q cache → IfSome asked Q
+found_asked asked cache Q is q = subst (λ (o : Option (List ℕ)). IfSome o Q) is q

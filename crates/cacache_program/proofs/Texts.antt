@@ -1,5 +1,5 @@
 -- What is printed for a lookup isn't empty.
-use Rattle.std.proofs.Common.{◌+◌, ◌<◌, ℕ, List, [], ◌∷◌, ◌++◌, Option, Some, None, length, arith, length-append}
+use Rattle.std.proofs.Common.{◌<◌, [], ◌∷◌, Option, Some, None, length, arith, length-append}
 use Rattle.cacache.specs.Entries.{Found}
 use Rattle.cacache_program.specs.{PrintedEntries.{entry_text}, WordFind.{found_line}}
 

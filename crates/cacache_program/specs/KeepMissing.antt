@@ -1,10 +1,20 @@
 -- What is said if there is no cache.
-use Rattle.std.specs.{Prelude.{◌≡◌, ◌⊎◌, ◌++◌, ℕ, List, Option, Bool, true, false, codes}, Io.KnownBytes.{Appends}}
+use Rattle.std.specs.{Prelude.{◌≡◌, ◌⊎◌, ◌++◌, ℕ, List, Option, None, Some, Bool, String, option_and_then, true, false, codes}, Io.KnownBytes.{Appends}}
 use Rattle.cacache_store.specs.declared.store.answer.Answer.TheVariants as answers
 use Rattle.cacache_store.specs.declared.store.step.Step.TheVariants as steps
 use Rattle.cacache_calls.specs.SingleSteps.{Does}
 use Rattle.cacache.specs.{Stores.{LogItem, PlainAnswer}, Calls.{Env, KeepsRest}}
-use Rattle.cacache_program.specs.Output.{AppendsPart}
+use Rattle.cacache_program.specs.{declared.keep.names.Word.{Word, TheVariants.{Prune, PlanPrune}}, Orders.{Order, order_in}, Output.{AppendsPart}}
+
+-- the cache, unless the word prunes
+abbrev pub cache_for : Word → List ℕ → Option (List ℕ)
+cache_for Prune cache = None
+cache_for PlanPrune cache = None
+cache_for word cache = Some cache
+
+-- the cache that right words name, but for those that prune
+abbrev pub cache_asked : {A : Type 0} → List (String A) → Option (List ℕ)
+cache_asked words = option_and_then (λ (o : Order). cache_for o.word o.cache) (order_in words)
 
 -- the line about a folder that isn't there
 abbrev pub missing_line : List ℕ → List ℕ

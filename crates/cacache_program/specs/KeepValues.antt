@@ -1,8 +1,8 @@
 -- What is printed for the values that the calls of `cacache-keep` give.
-use Rattle.std.specs.Prelude.{ℕ, List, [], length, map, string_bytes}
+use Rattle.std.specs.Prelude.{ℕ, List, length, map, string_bytes}
 use Rattle.cacache.specs.Entries.{found_view}
-use Rattle.cacache_keep.specs.declared.{collecting.Collected.{Collected}, compacting.Compacted.{Compacted}, planning.Planned.{Planned}, pruning.{PrunePlan.{PrunePlan}, Pruned.{Pruned}}, repairing.Repaired.{Repaired}, sweeping.Swept.{Swept}, verifying.Verdict.{Verdict}}
-use Rattle.cacache_program.specs.{WordCollect.{collected_text}, WordCompact.{compacted_text}, WordList.{listed_text}, WordPlan.{planned_text}, WordPrune.{prune_text}, WordRepair.{repaired_text}, WordSweep.{swept_text}, WordVerify.{Findings, verdict_status, verdict_text}}
+use Rattle.cacache_keep.specs.declared.{collecting.{Collected.{Collected}, Collection.{Collection}}, compacting.Compacted.{Compacted}, planning.Planned.{Planned}, pruning.{PrunePlan.{PrunePlan}, Pruned.{Pruned}}, repairing.Repaired.{Repaired}, sweeping.Swept.{Swept}, verifying.Verdict.{Verdict}}
+use Rattle.cacache_program.specs.{WordCollect.{collected_text, collection_text}, WordCompact.{compacted_text}, WordList.{listed_text}, WordPlan.{planned_text}, WordPrune.{prune_text, pruned_text}, WordRepair.{repaired_text}, WordSweep.{swept_text}, WordVerify.{Findings, verdict_status, verdict_text}}
 
 -- ---- a verification
 
@@ -36,6 +36,10 @@ list_of_verdict v = listed_text (findings_of v)
 abbrev pub text_of_collected : Collected → List ℕ
 text_of_collected c = collected_text c.kept (length c.dropped.items)
 
+-- the counts of a collection with options
+abbrev pub text_of_collection : Collection → List ℕ
+text_of_collection c = collection_text c
+
 -- the counts of a plan, and a line for each bucket with an odd line
 abbrev pub text_of_planned : Planned → List ℕ
 text_of_planned p = planned_text p.kept (length p.unused.items) p.odd.items
@@ -59,4 +63,6 @@ text_of_prune_plan p =
 
 -- the counts of a pruning, and its entries
 abbrev pub text_of_pruned : Pruned → List ℕ
-text_of_pruned p = prune_text p.bytes_before p.bytes_after (map found_view p.dropped.items) []
+text_of_pruned p =
+    pruned_text p.bytes_before p.bytes_after (map found_view p.dropped.items)
+    (map found_view p.left.items)

@@ -11,7 +11,6 @@ pub mod WordClear
 pub mod WordLs
 pub mod WordStorm
 pub mod Lines
-pub mod KeepWords
 pub mod WordVerify
 pub mod WordList
 pub mod WordCollect
@@ -32,4 +31,11 @@ pub mod WordStore
 pub mod WordWriteHash
 pub mod FurtherWords
 pub mod WordPrune
-pub mod PruneWords
+pub mod OptionTable
+pub mod Options
+pub mod Amounts
+pub mod Orders
+pub mod Roots
+pub mod WordTouch
+pub mod WordTidy
+pub mod Doing

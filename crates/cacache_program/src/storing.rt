@@ -30,7 +30,7 @@ fn open<S: Store, C, N>(env: &mut Env<S, C, N>, path: &Text) -> Result<S::File>
 }
 
 /// The file at the path couldn't be read.
-fn reading(alloc: Global, path: &Text) -> std::result::Result<Text, AllocError> {
+pub(crate) fn reading(alloc: Global, path: &Text) -> std::result::Result<Text, AllocError> {
     Ok(Text::new(format!(in alloc; "Failed to read {path}")?))
 }
 

@@ -17,7 +17,7 @@ use std::thread::Threads;
 use std::time::Clock;
 
 /// Whether these bytes are decimal digits alone.
-fn are_digits(bytes: &[u8]) -> bool
+pub(crate) fn are_digits(bytes: &[u8]) -> bool
     ensures { result ≡ all_ascii_digits bytes.now }
 {
     for byte in bytes {

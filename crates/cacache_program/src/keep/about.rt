@@ -16,8 +16,10 @@ pub const HELP: &str = "usage: cacache-keep verify|collect CACHE
                  and for each bucket with lines that only other readers can read;
                  in a path, \\\\ stands for \\, and \\x and two hex digits for a control character
   collect CACHE  removes the contents that no entry has, and counts the kept and the dropped
-  collect --anyway CACHE
-                 the same, even if the index has lines that only other readers can read
+  collect --grace SECONDS --keep FILE --durable --anyway CACHE
+                 the same with any of these, and counts also the young and those that were gone:
+                 leaves what changed in the last SECONDS, or what a line of FILE names; syncs the
+                 index first; goes on if the index has lines that only other readers can read
   plan CACHE     counts what collect would keep and drop, and changes nothing; it names
                  each bucket with lines that only other readers can read
   sweep CACHE    removes temporary files, and counts them, their bytes, and other files there
@@ -27,13 +29,20 @@ pub const HELP: &str = "usage: cacache-keep verify|collect CACHE
   compact CACHE  writes the index anew without old lines, and counts the buckets and bytes saved
   compact --durable CACHE
                  the same, and syncs what it leaves, so that it outlasts a loss of power
+  touch KEY CACHE
+                 marks the key as used now, so that prune counts it as new; says how many that was
   prune BYTES SECONDS CACHE
                  drops the oldest entries, until the others have at most so many bytes and none
                  is older than so many seconds, or - for no limit, and collects the cache;
-                 it says how many bytes the entries had and have, and names those that are dropped
+                 it says how many bytes the entries had and have, and names those that are dropped;
+                 --grace, --keep and --durable are as with collect; what couldn't be dropped is named as left,
+                 and the status is 1; units are K, M and G of 1024, and s, m, h and d, as in 300M and 30d
   plan-prune BYTES SECONDS CACHE
                  says what prune would drop, and changes nothing; it also names each bucket with
                  lines that only other readers can read
+  tidy --size BYTES --age SECONDS --grace SECONDS --keep FILE CACHE
+                 sweeps, prunes within these limits if there are any, compacts and collects;
+                 each prints what it prints alone, and none comes after one that failed
   --why          before these words: says in brackets why a call failed
   --help, -h     prints this
   --version, -V  prints the version

@@ -1,10 +1,11 @@
 //! What is said if there is no cache.
-ghost use Rattle.std.specs.Prelude.{◌≡◌, IfNone, IfSome, None, true};
-ghost use Rattle.cacache_program.specs.{KeepMissing.{AsksFor, AsksMissing, TellsMissing}, KeepWords.{IsWrong}, Words.{asked_of}};
+ghost use Rattle.std.specs.Prelude.{◌≡◌, IfNone, IfSome, option_map, true};
+ghost use Rattle.cacache_program.specs.KeepMissing.{AsksFor, AsksMissing, TellsMissing, cache_asked};
 
 use crate::errors::Errors;
+use crate::keep::names::Word;
+use crate::keep::orders::order_of;
 use crate::output::write_whole;
-use crate::words::parse_words;
 use cacache::env::Env;
 use cacache::store::{Step, Store};
 use cacache::text::Text;
@@ -12,22 +13,16 @@ use cacache_calls::answers::there_of;
 use std::alloc::Global;
 use std::io::Write;
 
-/// The cache that the words name, if they ask for anything.
+/// The cache that right words name, but for those that prune.
 fn cache_of(words: &[String]) -> Option<&str>
-    ensures wrong { IsWrong (asked_of words.now) → result ≡ None }
-    ensures alone { IfSome result (λ cache. IfNone (asked_of words.now).key
-        (cache.now ≡ (asked_of words.now).cache)) }
-    ensures listed { IfSome result (λ cache. IfSome (asked_of words.now).key (λ key.
-        cache.now ≡ key)) }
+    ensures { option_map (λ w. w.now) result ≡ cache_asked words.now }
 {
-    match parse_words(words) {
-        ("verify", "--list", Some(cache)) => Some(cache),
-        ("collect" | "repair", "--anyway", Some(cache)) => Some(cache),
-        ("compact", "--durable", Some(cache)) => Some(cache),
-        ("verify" | "collect" | "plan" | "sweep" | "repair" | "compact", cache, None) => {
-            Some(cache)
-        }
-        _ => None,
+    match order_of(words) {
+        Some(order) => match order.word {
+            Word::Prune | Word::PlanPrune => None,
+            _ => Some(order.cache),
+        },
+        None => None,
     }
 }
 
@@ -65,10 +60,9 @@ pub fn tell_missing<S: Store, C, N, E: Write>(
     words: &[String],
     errors: &mut Errors<E>,
 )
-    ensures wrong { IsWrong (asked_of words.now) → (env.new ≡ env.old) × (errors.new ≡ errors.old) }
-    ensures alone { IfNone (asked_of words.now).key (AsksFor S.log (asked_of words.now).cache
-        env.old env.new (E.contents errors.old.output) (E.contents errors.new.output)) }
-    ensures listed { IfSome (asked_of words.now).key (λ cache. AsksFor S.log cache
+    ensures wrong { IfNone (cache_asked words.now)
+        ((env.new ≡ env.old) × (errors.new ≡ errors.old)) }
+    ensures asked { IfSome (cache_asked words.now) (λ cache. AsksFor S.log cache
         env.old env.new (E.contents errors.old.output) (E.contents errors.new.output)) }
     ensures same { errors.new ≡ record errors.old { output = errors.new.output } }
 {

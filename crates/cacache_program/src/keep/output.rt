@@ -1,14 +1,15 @@
 //! What is printed for what the calls give. Of these texts, memory alone can fail.
-ghost use Rattle.std.specs.Prelude.{◌≡◌, ◌⊎◌, [], IfOk, map};
+ghost use Rattle.std.specs.Prelude.{◌≡◌, ◌⊎◌, IfOk, length, map};
 ghost use Rattle.cacache.specs.Entries.{found_view};
-ghost use Rattle.cacache_program.specs.{WordPrune.{prune_text as text_of_prune}, KeepValues.{status_of_verdict, text_of_collected, text_of_compacted, text_of_planned, text_of_prune_plan, text_of_pruned, text_of_repaired, text_of_swept, text_of_verdict}};
+ghost use Rattle.cacache_program.specs.{WordPrune.{dropped_text as text_of_dropped, pruned_status}, KeepValues.{status_of_verdict, text_of_collected, text_of_collection, text_of_compacted, text_of_planned, text_of_prune_plan, text_of_pruned, text_of_repaired, text_of_swept, text_of_verdict}};
 
 use crate::counts::counts_text;
 use crate::keep::naming::{entry_lines, odd_lines};
 use cacache::{Metadata, Result};
 use cacache_core::keeping::let_go;
-use cacache_core::text::Text;
-use cacache_keep::{Collected, Compacted, Planned, PrunePlan, Pruned, Repaired, Swept, Verdict};
+use cacache_keep::{
+    Collected, Collection, Compacted, Planned, PrunePlan, Pruned, Repaired, Swept, Verdict,
+};
 use std::alloc::Global;
 
 /// What is printed for a verification.
@@ -44,6 +45,19 @@ pub(crate) fn collected_text(alloc: Global, collected: &Collected) -> Result<Vec
 {
     let (kept, dropped) = (collected.kept, collected.dropped.len() as u64);
     counts_text(alloc, &[("kept", kept), ("dropped", dropped)])
+}
+
+/// What is printed for a collection with options.
+pub(crate) fn collection_text(alloc: Global, collection: Collection) -> Result<Vec<u8>>
+    ensures { IfOk result (λ text. text.items ≡ text_of_collection collection) }
+{
+    let counts = [
+        ("kept", collection.kept),
+        ("dropped", collection.dropped),
+        ("young", collection.young),
+        ("gone", collection.gone),
+    ];
+    counts_text(alloc, &counts)
 }
 
 /// What is printed of a plan: its counts, and a line for each bucket with an odd line.
@@ -82,17 +96,10 @@ pub(crate) fn compacted_text(alloc: Global, compacted: &Compacted) -> Result<Vec
     counts_text(alloc, &[("buckets", buckets), ("bytes", bytes)])
 }
 
-/// What is printed of a pruning: its counts, a line for each entry that is dropped, and one for each bucket with an odd
-/// line.
-fn prune_text(
-    alloc: Global,
-    before: u64,
-    after: u64,
-    dropped: Vec<Metadata>,
-    odd: Vec<Text>,
-) -> Result<Vec<u8>>
+/// What is printed of a pruning or its plan first: its counts, and a line for each entry that is dropped.
+fn dropped_text(alloc: Global, before: u64, after: u64, dropped: Vec<Metadata>) -> Result<Vec<u8>>
     ensures { IfOk result (λ text. text.items
-        ≡ text_of_prune before after (map found_view dropped.items) odd.items) }
+        ≡ text_of_dropped before after (map found_view dropped.items)) }
 {
     let counts = [
         ("before", before),
@@ -101,11 +108,10 @@ fn prune_text(
     ];
     let mut text = counts_text(alloc, &counts)?;
     text.extend_from_slice(&entry_lines(alloc, "dropped ", dropped)?)?;
-    text.extend_from_slice(&odd_lines(alloc, odd)?)?;
     Ok(text)
 }
 
-/// What is printed of a plan of a pruning.
+/// What is printed of a plan of a pruning: after that a line for each bucket with an odd line.
 pub(crate) fn prune_plan_text(alloc: Global, plan: PrunePlan) -> Result<Vec<u8>>
     ensures { IfOk result (λ text. text.items ≡ text_of_prune_plan plan) }
 {
@@ -117,19 +123,36 @@ pub(crate) fn prune_plan_text(alloc: Global, plan: PrunePlan) -> Result<Vec<u8>>
         odd,
     } = plan;
     let_go(kept);
-    prune_text(alloc, bytes_before, bytes_after, dropped, odd)
+    let odd = odd_lines(alloc, odd)?;
+    let mut text = dropped_text(alloc, bytes_before, bytes_after, dropped)?;
+    text.extend_from_slice(&odd)?;
+    Ok(text)
 }
 
-/// What is printed for a pruning.
+/// The status of a pruning: 0 if no entry is left, otherwise 1.
+pub(crate) fn status_of_pruned(pruned: &Pruned) -> u8
+    ensures status { result ≡ pruned_status (length pruned.now.left.items) }
+    ensures known { (result ≡ 0) ⊎ (result ≡ 1) }
+{
+    if pruned.left.is_empty() {
+        return 0;
+    }
+    1
+}
+
+/// What is printed for a pruning: after the same lines one for each entry that is left.
 pub(crate) fn pruned_text(alloc: Global, pruned: Pruned) -> Result<Vec<u8>>
     ensures { IfOk result (λ text. text.items ≡ text_of_pruned pruned) }
 {
     let Pruned {
         dropped,
+        left,
         bytes_before,
         bytes_after,
-        collected,
+        collected: _,
     } = pruned;
-    let_go(collected);
-    prune_text(alloc, bytes_before, bytes_after, dropped, Vec::new(alloc))
+    let left = entry_lines(alloc, "left ", left)?;
+    let mut text = dropped_text(alloc, bytes_before, bytes_after, dropped)?;
+    text.extend_from_slice(&left)?;
+    Ok(text)
 }

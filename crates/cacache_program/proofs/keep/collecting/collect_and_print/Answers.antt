@@ -1,7 +1,7 @@
 -- A collection that was made is told.
 use Rattle.std.proofs.Common.{arith, inl}
 use Rattle.cacache_program.{specs.KeepValues.{text_of_collected}, proofs.Made.{made_puts}}
-use Rattle.cacache_program.proofs.keep.program.collect_and_print.Goals as goal
+use Rattle.cacache_program.proofs.keep.collecting.collect_and_print.Goals as goal
 
 pub returns-in-Ok-clause-does : goal.returns-in-Ok-clause-does
 returns-in-Ok-clause-does g c =
