@@ -38,6 +38,29 @@ pub fn string_of(alloc: Global, word: &str) -> Result<String, AllocError> {
     text.replace(alloc, "\\0", "\0")
 }
 
+/// Appends the byte whose two hex digits begin this part of a word, and then the rest of the part.
+fn push_part(bytes: &mut Vec<u8>, part: &str) -> Result<(), Flaw> {
+    let Some((digits, rest)) = part.split_at_checked(2) else {
+        return Err(Flaw::NotRead);
+    };
+    let Ok(byte) = u8::from_str_radix(digits, 16) else {
+        return Err(Flaw::NotRead);
+    };
+    bytes.extend_from_slice(&[byte])?;
+    Ok(bytes.extend_from_slice(rest.as_bytes())?)
+}
+
+/// The bytes of a word, in which `\xNN` is the byte with these two hex digits.
+pub fn bytes_of(alloc: Global, word: &str) -> Result<Vec<u8>, Flaw> {
+    let word = if is_nothing(word) { "" } else { word };
+    let mut parts = word.split("\\x");
+    let mut bytes = Vec::from_slice(alloc, parts.next().unwrap_or("").as_bytes())?;
+    for part in parts {
+        push_part(&mut bytes, part)?;
+    }
+    Ok(bytes)
+}
+
 /// Bytes as a word, without escaping line feeds, tabs and NULs; `?` if the bytes aren't UTF-8.
 pub fn word_of(bytes: &[u8]) -> &str {
     if bytes.is_empty() {

@@ -1,6 +1,6 @@
 //! Readers, writers and linkers over a store that fails one read or write. A row's words say which one, counted from 0, and how
 //! many the handle is asked for before its end. Each read asks for five bytes of `hello world`, and each write hands in the
-//! next part of it, or all of it; the file takes three bytes at most.
+//! next part of it, or all of it; the file takes three bytes at most. `finish` and `copy` read a reader to its end by one call.
 use cacache::content::read::{Reader, open};
 use cacache::{Integrity, Result as Answered, SyncToLinker, SyncWriter, WriteOpts};
 use cacache_core::keeping::{beside, let_go};
@@ -29,6 +29,8 @@ struct Asked {
     count: usize,
     /// Whether no file can be removed.
     stays: bool,
+    /// Whether each other read is interrupted.
+    interrupts: bool,
 }
 
 /// The numbers of a row.
@@ -38,17 +40,19 @@ fn numbers(words: &str, stays: bool) -> Result<Asked, Flaw> {
         fails: number_of(fails)?,
         count: number_of(count)?,
         stays,
+        interrupts: false,
     })
 }
 
-/// What a row of this kind asks for. A writer that gets all bytes at once has no count, and ` stays` follows the
-/// numbers of one that can't remove its file.
+/// What a row of this kind asks for. One that writes or reads all bytes by one call has no count, its reads may all be
+/// `interrupted`, and ` stays` follows the numbers of one that can't remove its file.
 fn asked_of(kind: &str, words: &str) -> Result<Asked, Flaw> {
     match (kind, words.strip_suffix(" stays")) {
-        ("whole", _) => Ok(Asked {
-            fails: number_of(words)?,
+        ("whole" | "finish" | "copy", _) => Ok(Asked {
+            fails: words.parse::<usize>().unwrap_or(usize::MAX),
             count: 1,
             stays: false,
+            interrupts: words == "interrupted",
         }),
         ("abandons", Some(words)) => numbers(words, true),
         _ => numbers(words, false),
@@ -61,6 +65,7 @@ fn on(alloc: Global, asked: Asked) -> Result<On, AllocError> {
         fails: Some(asked.fails),
         most: 3,
         stays: asked.stays,
+        interrupts: asked.interrupts,
         ..Mishaps::NONE
     };
     row_places::on(alloc, Faulty::new(alloc, mishaps)?, "/")
@@ -145,8 +150,19 @@ fn read_and_check(
     with_end(text, checked(alloc, reader.check()))
 }
 
+/// What a reader copies, and what it says then.
+fn copied(alloc: Global, reader: Reader<Failing>) -> Result<String, AllocError> {
+    let mut out = Vec::new(alloc);
+    let answer = reader.copy_to(&mut out);
+    let out = String::from_str(alloc, word_of(&out))?;
+    match answer {
+        Ok(count) => format!(in alloc; "{out}, copied {count}"),
+        Err(error) => format!(in alloc; "{out}, {}", refused(alloc, error)?),
+    }
+}
+
 /// What a reader gives, and its check.
-fn read(env: &mut On, count: usize) -> Result<String, Flaw> {
+fn read(env: &mut On, kind: &str, count: usize) -> Result<String, Flaw> {
     let alloc = env.alloc;
     let sri = match Integrity::parse(alloc, BOTH) {
         Ok(sri) => sri,
@@ -156,7 +172,11 @@ fn read(env: &mut On, count: usize) -> Result<String, Flaw> {
         }
     };
     Ok(match open(env, "c", sri) {
-        Ok(reader) => read_and_check(alloc, reader, count)?,
+        Ok(reader) => match kind {
+            "finish" => checked(alloc, reader.finish())?,
+            "copy" => copied(alloc, reader)?,
+            _ => read_and_check(alloc, reader, count)?,
+        },
         Err(error) => refused(alloc, error)?,
     })
 }
@@ -236,7 +256,7 @@ fn link(env: &mut On, count: usize) -> Result<String, AllocError> {
 /// What the handle of a row of this kind gives in an environment.
 fn handled_in(env: &mut On, kind: &str, count: usize) -> Result<String, Flaw> {
     match kind {
-        "reader" => read(env, count),
+        "reader" | "finish" | "copy" => read(env, kind, count),
         "writer" => Ok(write(env, count)?),
         "whole" => Ok(write_whole(env)?),
         "abandons" => Ok(write_or_abandon(env, count)?),
@@ -244,7 +264,7 @@ fn handled_in(env: &mut On, kind: &str, count: usize) -> Result<String, Flaw> {
     }
 }
 
-/// What the handle of a row of this kind gives: `reader`, `writer`, `whole`, `abandons` or `linker`.
+/// What the handle of a row of this kind gives: `reader`, `finish`, `copy`, `writer`, `whole`, `abandons` or `linker`.
 pub(crate) fn handled(alloc: Global, kind: &str, words: &str) -> Result<String, Flaw> {
     let asked = asked_of(kind, words)?;
     let mut env = on(alloc, asked)?;

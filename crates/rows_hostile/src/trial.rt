@@ -64,7 +64,9 @@ fn tried(alloc: Global, act: &str) -> Result<String, Flaw> {
     match kind {
         "memory" => Ok(spared(alloc)?),
         "puts" => Ok(all_met(alloc)?),
-        "reader" | "writer" | "whole" | "abandons" | "linker" => handled(alloc, kind, words),
+        "reader" | "finish" | "copy" | "writer" | "whole" | "abandons" | "linker" => {
+            handled(alloc, kind, words)
+        }
         _ => kind_played(alloc, kind),
     }
 }

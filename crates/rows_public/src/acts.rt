@@ -7,7 +7,7 @@ use crate::program::{ended, without};
 use crate::puts::{driven, put};
 use crate::readers::read;
 use crate::row::Row;
-use crate::words::{bytes_of, shown};
+use crate::words::shown;
 use crate::writers::written;
 use cacache::store::Store;
 use cacache::text::Text;
@@ -15,7 +15,7 @@ use cacache_core::keeping::{let_go, set};
 use row_places::planting::{held, make_folder, make_link, names_in, plant, remove_file};
 use row_places::{MOMENT, On};
 use rows::Flaw;
-use rows::words::{cut, number_of};
+use rows::words::{bytes_of, cut, number_of, string_of};
 use std::alloc::AllocError;
 
 /// What a file holds, as a row says it.
@@ -33,9 +33,10 @@ fn names<S: Store>(env: &mut On<S>, path: &str) -> Result<String, AllocError> {
 }
 
 /// Plants a file with these bytes, in words.
-fn planted<S: Store>(env: &mut On<S>, path: &str, input: &str) -> Result<bool, AllocError> {
-    let bytes = bytes_of(env.alloc, input)?;
-    plant(env, path, &bytes)
+fn planted<S: Store>(env: &mut On<S>, path: &str, input: &str) -> Result<bool, Flaw> {
+    let text = string_of(env.alloc, input)?;
+    let bytes = bytes_of(env.alloc, text.as_str())?;
+    Ok(plant(env, path, &bytes)?)
 }
 
 /// What is done at the moment that an act begins with.
@@ -63,15 +64,15 @@ fn made_beside<S: Store>(
     name: &str,
     path: &str,
     input: &str,
-) -> Result<Option<&'static str>, AllocError> {
+) -> Result<Option<&'static str>, Flaw> {
     let is_done = match name {
-        "plant" => planted(env, path, input),
-        "folder" => make_folder(env, path),
-        "gone" => remove_file(env, path),
-        "link" => make_link(env, input, path),
+        "plant" => planted(env, path, input)?,
+        "folder" => make_folder(env, path)?,
+        "gone" => remove_file(env, path)?,
+        "link" => make_link(env, input, path)?,
         _ => return Ok(None),
     };
-    Ok(Some(if is_done? { "done" } else { "not done" }))
+    Ok(Some(if is_done { "done" } else { "not done" }))
 }
 
 /// What is given by a look at a file or a folder, by a step of somebody else, or by a public call.

@@ -19,6 +19,7 @@ use rows::answers::stored;
 use rows::parts::{algorithm_of, integrity_of};
 use rows::words::{cut, string_of};
 use std::alloc::{AllocError, Global};
+use std::cell::Cell;
 
 /// The line on a removal by integrity.
 fn removed_by_hash<S: Store>(
@@ -169,16 +170,33 @@ fn fetched(alloc: Global, input: &str) -> cacache::Result<Vec<u8>> {
     Ok(bytes_of(alloc, input)?)
 }
 
+/// The line on the bytes of a key, which are fetched if the cache lacks them: a word behind it says so.
+fn got_or_put<S: Store>(
+    env: &mut On<S>,
+    cache: &str,
+    key: &str,
+    input: &str,
+) -> Result<String, AllocError> {
+    let alloc = env.alloc;
+    let is_fetched = Cell::new(false);
+    let bytes = cacache::get_or_put_sync(env, cache, key, || {
+        is_fetched.set(true);
+        fetched(alloc, input)
+    });
+    let line = read(alloc, bytes)?;
+    if is_fetched.get() {
+        return format!(in alloc; "{line}, fetched");
+    }
+    Ok(line)
+}
+
 /// The line on a call by key.
 fn by_key<S: Store>(env: &mut On<S>, name: &str, words: &str, input: &str) -> Result<String, Flaw> {
     let alloc = env.alloc;
     let (cache, key) = cut(words);
     let line = match name {
         "read_sync" => read(alloc, cacache::read_sync(env, cache, key)),
-        "get_or_put_sync" => {
-            let bytes = cacache::get_or_put_sync(env, cache, key, || fetched(alloc, input));
-            read(alloc, bytes)
-        }
+        "get_or_put_sync" => got_or_put(env, cache, key, input),
         "find" => found(alloc, find(env, cache, key)),
         "metadata_sync" => found(alloc, cacache::metadata_sync(env, cache, key)),
         _ => return removed(env, name, words, input),

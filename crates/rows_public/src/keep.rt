@@ -13,7 +13,8 @@
 //! `later_piece` is each read of a piece but the first.
 //! `changed` and a time in milliseconds, or `gone`, before an act make it over a store each of whose files changed then.
 //! `collect_with CACHE` takes options: `grace=MILLISECONDS`, `keep=INTEGRITY`, `durable`, `anyway`.
-//! `asked` before an act tells how often the clock was asked, and how many numbers.
+//! `asked` before an act tells how often the clock was asked, and how many numbers. `at` and a moment sets the clock, and
+//! `numbered` and a number the next one. After `in memory` an act is made there alone.
 //!
 //! A row holds if the act with this input gives this result at both places. The rows of a group that hold are counted, and
 //! each other row is printed with what was wanted and what came.

@@ -1,6 +1,8 @@
 //! Contents that are read in pieces: how the reader is opened, the cache, the key or the integrity's text, how many
-//! bytes are read at first, and what is done then. The input is the path of the content if that is spoilt.
-use crate::lines::pair;
+//! bytes are read at first, and what is done then. The input is the path of the content if that is spoilt, or how many
+//! bytes an output takes.
+use crate::lines::{copied, pair};
+use crate::streams::Output;
 use crate::words::shown;
 use cacache::content::read::open;
 use cacache::store::{OpenedFile, Store};
@@ -64,7 +66,7 @@ fn spoil<S: Store>(env: &mut On<S>, then: &str, path: &str) -> Result<bool, Allo
     }
 }
 
-/// The lines on the first bytes of a reader, and on the rest, which `stop` and `drop` leave out.
+/// The lines on the first bytes of a reader, and on the rest after `rest`, `gone` and `anew`.
 fn parts_of<S: Store>(
     env: &mut On<S>,
     reader: &mut SyncReader<S::File>,
@@ -74,14 +76,42 @@ fn parts_of<S: Store>(
 ) -> Result<String, AllocError> {
     let alloc = env.alloc;
     let first = first_of(alloc, reader, count);
-    if matches!(then, "stop" | "drop") {
+    if matches!(then, "stop" | "drop" | "finish" | "copy") {
         return first;
     }
     let _is_spoilt = spoil(env, then, path)?;
     pair(alloc, first, rest_of(alloc, reader))
 }
 
-/// The line on the parts of a reader and on its check, except after `drop`; or why it wasn't opened.
+/// The lines on what a reader copies to an output with room for so many bytes, and on its answer.
+fn copied_out<F: OpenedFile>(
+    alloc: Global,
+    reader: SyncReader<F>,
+    room: &str,
+) -> Result<String, AllocError> {
+    let mut output = Output {
+        room: room.parse::<usize>().unwrap_or(usize::MAX),
+        taken: Vec::new(alloc),
+    };
+    let answer = copied(alloc, reader.copy_to(&mut output));
+    pair(alloc, shown(alloc, &output.taken), answer)
+}
+
+/// The line on the end of a reader: its check, or what reads its rest by one call.
+fn ended<F: OpenedFile>(
+    alloc: Global,
+    reader: SyncReader<F>,
+    then: &str,
+    room: &str,
+) -> Result<String, AllocError> {
+    match then {
+        "finish" => checked(alloc, reader.finish()),
+        "copy" => copied_out(alloc, reader, room),
+        _ => checked(alloc, reader.check()),
+    }
+}
+
+/// The line on the parts of a reader and on its end, except after `drop`; or why it wasn't opened.
 fn told<S: Store>(
     env: &mut On<S>,
     opened: Answered<SyncReader<S::File>>,
@@ -98,7 +128,7 @@ fn told<S: Store>(
         let_go(reader);
         return parts;
     }
-    pair(env.alloc, parts, checked(env.alloc, reader.check()))
+    pair(env.alloc, parts, ended(env.alloc, reader, then, path))
 }
 
 /// The line on a reader.

@@ -39,7 +39,7 @@ impl Read for Input<'_> {
     }
 }
 
-/// An output that has room for so many bytes and then fails.
+/// An output that has room for so many bytes and then fails. It has a word for each flush.
 #[derive(Drop)]
 pub(crate) struct Output {
     pub(crate) room: usize,
@@ -58,6 +58,6 @@ impl Write for Output {
     }
 
     fn flush(&mut self) -> io::Result<()> {
-        Ok(())
+        Ok(self.taken.extend_from_slice(b"flushed")?)
     }
 }

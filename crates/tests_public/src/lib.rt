@@ -7,8 +7,6 @@ mod bases;
 #[cfg(test)]
 mod bytes;
 #[cfg(test)]
-mod fetched;
-#[cfg(test)]
 mod losing;
 #[cfg(test)]
 mod making;
@@ -20,8 +18,6 @@ mod order;
 mod playing;
 #[cfg(test)]
 mod readme;
-#[cfg(test)]
-mod reads;
 #[cfg(test)]
 mod surviving;
 #[cfg(test)]

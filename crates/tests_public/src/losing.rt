@@ -15,7 +15,7 @@ use std::test::Fail;
 
 /// Where the content `hello world` lies, by the digest that `openssl dgst -sha256` prints.
 const CONTENT: &str =
-    "/cache/content-v2/sha256/b9/4d/27b9934d3e08a52e52d7da7dabfac484efe37a5380ee9088f7ace2efcde9";
+    "c/content-v2/sha256/b9/4d/27b9934d3e08a52e52d7da7dabfac484efe37a5380ee9088f7ace2efcde9";
 
 /// A link is stored. Then the sixth move of a durable put can't move its content to its place, and the put finds the link.
 pub(crate) const FINDS_A_LINK: &[Row] = &[
@@ -46,7 +46,7 @@ fn left(alloc: Global, world: &World) -> Result<MemStore, AllocError> {
 /// What is read there of the put's key.
 fn read_left(alloc: Global, world: &World) -> Result<Vec<u8>, AllocError> {
     let mut env = on(alloc, left(alloc, world)?, "/")?;
-    match read_sync(&mut env, "/cache", "b") {
+    match read_sync(&mut env, "c", "b") {
         Ok(bytes) => Ok(bytes),
         Err(error) => {
             let_go(error);

@@ -14,7 +14,7 @@ pub(crate) const HELLO: &str = "sha256-uU0nuZNNPgilLlLX2n2r+sSE7+N6U4DukIj3rOLvz
 pub(crate) const STORED_HELLO: &str = "stored sha256-uU0nuZNNPgilLlLX2n2r+sSE7+N6U4DukIj3rOLvzek=";
 
 /// The path of the outside file, which holds `hello world`.
-const OUTSIDE: &str = "/files/a";
+const OUTSIDE: &str = "/w/t";
 
 /// The bytes of a text.
 fn bytes_of(alloc: Global, text: &str) -> Result<Bytes, AllocError> {
@@ -75,7 +75,7 @@ fn outside(alloc: Global) -> Result<Vec<(Text, Bytes)>, AllocError> {
 /// A world of some callers, with one outside file.
 pub(crate) fn world_of(alloc: Global, callers: usize) -> Result<World, AllocError> {
     let files = outside(alloc)?;
-    let (cache, files) = beside(Text::from_str(alloc, "/cache"), files)?;
+    let (cache, files) = beside(Text::from_str(alloc, "c"), files)?;
     match World::new(alloc, callers, cache, files) {
         Ok(world) => Ok(world),
         Err(_) => Err(AllocError),

@@ -1,5 +1,4 @@
 //! Tests with threads: at one world, each with a seat of its own, at one real folder, and at polled writers.
-mod ending;
 mod folders;
 mod making;
 mod meetings;

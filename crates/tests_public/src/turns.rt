@@ -42,7 +42,7 @@ const TORN_AND_WHOLE: &str =
 
 /// Whether the bucket of `x`, which `sha1sum` names, holds a text.
 fn bucket_holds(world: &World, text: &str) -> Result<bool, AllocError> {
-    let path = "/cache/index-v5/11/f6/ad8ec52a2984abaafd7c3b516503785c2072";
+    let path = "c/index-v5/11/f6/ad8ec52a2984abaafd7c3b516503785c2072";
     Ok(match world.disk().shared(path)? {
         Some(bytes) => bytes.as_slice() == text.as_bytes(),
         None => false,

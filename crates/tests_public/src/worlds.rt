@@ -78,7 +78,7 @@ fn events_are_played_up_to_the_first_fault(rt: HostRuntime) -> Result<(), Fail> 
 }
 
 /// Where the exports go.
-const TARGETS: [&str; 5] = ["/cache", "//cache/./b", "/files", "/files/a", "/files/b"];
+const TARGETS: [&str; 6] = ["c", "c/x", "//c/./x", "/w", "/w/t", "/w/o"];
 
 /// Whether a world begins an export to a path, or why it doesn't.
 fn begun(alloc: Global, world: &mut World, to: &str) -> Result<Result<(), WorldFault>, AllocError> {
@@ -105,6 +105,9 @@ fn all_begun_alone(alloc: Global) -> Result<Vec<Result<(), WorldFault>>, AllocEr
 fn exports_go_apart_from_the_cache_and_the_outside_files(rt: HostRuntime) -> Result<(), Fail> {
     let bad = Err(WorldFault::BadCommand);
     let all = all_begun_alone(rt.alloc())?;
-    assert_eq!(rt; all.as_slice(), [bad, bad, bad, bad, Ok(())].as_slice());
+    assert_eq!(rt;
+        all.as_slice(),
+        [bad, bad, bad, bad, bad, Ok(())].as_slice()
+    );
     Ok(())
 }

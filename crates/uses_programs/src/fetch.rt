@@ -2,7 +2,7 @@
 //! missing or damaged; `prune CACHE BYTES` drops the oldest files. A mirror is a folder with the file NAME, and with its headers in
 //! NAME.headers, as lines `name: value`.
 use anyhow::{Result, bail};
-use cacache::env::{Clock, Env, Names, folders};
+use cacache::env::{Clock, Env, Folders, Names, folders};
 use cacache::errors::{Fault, is_damage};
 use cacache::store::Store;
 use cacache::{Error, Integrity, Value, WriteOpts, copy_hash_sync, index, metadata_sync};
@@ -130,12 +130,7 @@ fn get<S: Store, C: Clock, N: Names>(
 }
 
 /// Drops the oldest files until the others have at most so many bytes.
-fn shrink<S: Store, C: Clock, N: Names>(
-    rt: HostRuntime,
-    env: &mut Env<S, C, N>,
-    cache: &str,
-    bytes: u64,
-) -> Result<()> {
+fn shrink(rt: HostRuntime, env: &mut Folders, cache: &str, bytes: u64) -> Result<()> {
     let limits = Limits {
         bytes: Some(bytes),
         since: None,

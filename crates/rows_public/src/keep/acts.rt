@@ -15,7 +15,7 @@ use cacache_program::keep::{run, said, tell_missing};
 use cacache_program::{Errors, asks_why, tell};
 use cacache_store::store::Stamps;
 use row_places::planting::{held, make_folder, plant, plant_link};
-use row_places::{On, on};
+use row_places::{MOMENT, On, on};
 use rows::Flaw;
 use rows::answers::refused;
 use rows::words::{cut, number_of, string_of};
@@ -200,15 +200,36 @@ fn asked<S: Stamps + Reasons>(env: &mut On<S>, act: &str, input: &str) -> Result
     Ok(format!(in env.alloc; "clock {clock}, numbers {numbers}: {came}")?)
 }
 
+/// What an act gives while the clock stands at this moment.
+fn made_at<S: Stamps + Reasons>(env: &mut On<S>, words: &str, input: &str) -> Result<String, Flaw> {
+    let (moment, act) = cut(words);
+    env.clock.moment = number_of(moment)? as u64;
+    let came = acted(env, act, input);
+    env.clock.moment = MOMENT;
+    came
+}
+
+/// What an act gives if numbers begin here.
+fn numbered<S: Stamps + Reasons>(
+    env: &mut On<S>,
+    words: &str,
+    input: &str,
+) -> Result<String, Flaw> {
+    let (next, act) = cut(words);
+    env.names.next = number_of(next)? as u64;
+    acted(env, act, input)
+}
+
 /// What an act gives; after `stuck` and a kind of step, over a store on which these fail. After `asked` with how often the
 /// environment was asked.
 fn made_now<S: Stamps + Reasons>(env: &mut On<S>, act: &str, input: &str) -> Result<String, Flaw> {
     let (name, words) = cut(act);
-    if name == "asked" {
-        return asked(env, words, input);
-    }
-    if name != "stuck" {
-        return acted(env, act, input);
+    match name {
+        "asked" => return asked(env, words, input),
+        "at" => return made_at(env, words, input),
+        "numbered" => return numbered(env, words, input),
+        "stuck" => {}
+        _ => return acted(env, act, input),
     }
     let (kind, act) = cut(words);
     let Some(kind) = Kind::named(kind) else {

@@ -48,8 +48,11 @@ impl Places {
         })
     }
 
-    /// What an act gives at both places.
+    /// What an act gives at both places, or after `in memory` there.
     fn everywhere(&mut self, act: &str, input: &str) -> Result<String, Flaw> {
+        if let Some(act) = act.strip_prefix("in memory ") {
+            return made(&mut self.memory, act, input);
+        }
         let in_memory = made(&mut self.memory, act, input)?;
         let in_folders = made(&mut self.folders, act, input)?;
         Ok(in_both(self.alloc, in_memory, in_folders)?)

@@ -1,8 +1,9 @@
 //! The entries that bytes hold.
-use crate::values::words::{bytes_of, column, printed, two};
+use crate::values::words::{column, printed, two};
 use cacache_entry::{SerializableMetadata, entries};
 use rows::Flaw;
 use rows::answers::given;
+use rows::words::bytes_of;
 use sha2::{Digest, Sha256};
 use std::alloc::{AllocError, Global};
 use std::hash::{DefaultHasher, Hash, Hasher};

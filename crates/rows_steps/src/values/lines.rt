@@ -1,10 +1,10 @@
 //! The lines of entries.
-use crate::values::words::{Debugged, bytes_of, column, plain, printed, text_of, three};
+use crate::values::words::{Debugged, column, plain, printed, text_of, three};
 use cacache_core::keeping::let_go;
 use cacache_entry::{Metadata, SerializableMetadata, entries, latest};
 use rows::Flaw;
 use rows::answers::given;
-use rows::words::{number_of, word_of};
+use rows::words::{bytes_of, number_of, word_of};
 use serde_json::Value;
 use std::alloc::{AllocError, Global};
 

@@ -1,9 +1,10 @@
 //! Lookups in a bucket's bytes.
-use crate::values::words::{bytes_of, column, printed, two};
+use crate::values::words::{column, printed, two};
 use cacache_core::keeping::let_go;
 use cacache_entry::Lookup;
 use rows::Flaw;
 use rows::answers::given;
+use rows::words::bytes_of;
 use std::alloc::Global;
 
 /// The time of what a lookup found, and how many pieces were decoded.

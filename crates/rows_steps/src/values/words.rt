@@ -1,9 +1,8 @@
 //! Words as bytes and texts, and values as texts.
 use cacache_core::errors::Error;
-use hex::FromHex;
 use rows::Flaw;
 use rows::answers::given;
-use rows::words::is_nothing;
+use rows::words::{bytes_of, is_nothing};
 use std::alloc::Global;
 use std::fmt::{self, Debug, Display, Formatter, Write};
 
@@ -15,28 +14,6 @@ pub(crate) fn column(columns: &str) -> (&str, &str) {
 /// A word as it is written, except that `-` is the empty word.
 pub(crate) fn plain(word: &str) -> &str {
     if is_nothing(word) { "" } else { word }
-}
-
-/// Appends the byte whose two hex digits begin this part of a word, and then the rest of the part.
-fn push_part(bytes: &mut Vec<u8>, part: &str) -> Result<(), Flaw> {
-    let Some((digits, rest)) = part.split_at_checked(2) else {
-        return Err(Flaw::NotRead);
-    };
-    let Ok(byte) = <[u8; 1]>::from_hex(digits) else {
-        return Err(Flaw::NotRead);
-    };
-    bytes.extend_from_slice(&byte)?;
-    Ok(bytes.extend_from_slice(rest.as_bytes())?)
-}
-
-/// The bytes of a word, in which `\xNN` is the byte with these two hex digits.
-pub(crate) fn bytes_of(alloc: Global, word: &str) -> Result<Vec<u8>, Flaw> {
-    let mut parts = plain(word).split("\\x");
-    let mut bytes = Vec::from_slice(alloc, parts.next().unwrap_or("").as_bytes())?;
-    for part in parts {
-        push_part(&mut bytes, part)?;
-    }
-    Ok(bytes)
 }
 
 /// The text of a word.

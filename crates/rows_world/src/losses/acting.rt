@@ -1,7 +1,7 @@
 //! The calls that a row writes out, of one caller.
 use crate::losses::history::put_of;
-use cacache_calls::Command;
-use cacache_core::errors::Fault;
+use cacache_calls::{Command, Reply};
+use cacache_core::errors::{Error, Fault};
 use cacache_core::keeping::let_go;
 use cacache_disk::Luck;
 use cacache_world::{Move, World};
@@ -85,14 +85,31 @@ pub(crate) fn make(alloc: Global, world: &mut World, act: &str, moment: u128) ->
     }
 }
 
-/// How many moves each call takes.
+/// The number of a call's last move; if this is to fail, the fault that the call replies.
+fn ended(alloc: Global, world: &mut World, words: &str) -> Result<String, Flaw> {
+    let Some(before) = words.strip_suffix("!") else {
+        let count = moves(world, MOST)?.unwrap_or(0);
+        return Ok(format!(in alloc; "{count}")?);
+    };
+    let before = number_of(before)?;
+    moves(world, before)?;
+    match world.move_one(0, Luck::Fail(Fault::Device, None)) {
+        Ok(Move::Done(Reply::Refused(Error::IoError(fault, _)))) => {
+            Ok(format!(in alloc; "{} {fault:?}", before.saturating_add(1))?)
+        }
+        _ => Err(Flaw::Unfit),
+    }
+}
+
+/// How many moves each call takes; a call with a move that fails is followed by its fault.
 pub(crate) fn counted(alloc: Global, world: &mut World, acts: &str) -> Result<String, Flaw> {
     let mut line = String::new(alloc);
     for (number, act) in acts.split("; ").enumerate() {
-        begin(alloc, world, act, number as u128)?;
-        let count = moves(world, MOST)?.unwrap_or(0);
+        let words = begin(alloc, world, act, number as u128)?;
+        let ended = ended(alloc, world, words)?;
         let comma = if line.is_empty() { "" } else { ", " };
-        line.push_str(format!(in alloc; "{comma}{count}")?.as_str())?;
+        line.push_str(comma)?;
+        line.push_str(ended.as_str())?;
     }
     Ok(line)
 }
