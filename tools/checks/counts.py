@@ -71,19 +71,19 @@ def words():
     cells = table_below("docs/PROGRAMS.md", "The program `cacache` has these words:")
     stated = [it for cell in cells for it in re.findall("`([^`]+)`", cell)]
     wrong = compared("docs/PROGRAMS.md", "words of cacache", stated, helped("about.rt"))
-    shown = told("docs/PROGRAMS.md", r"(?s)In `crates/cacache_keep_cli`.*?\n\n(.*?)\n\n")
+    shown = told("docs/PROGRAMS.md", r"(?s)For a cache that wasn't cleared.*?\n\n(.*?)\n\n")
     names = list(dict.fromkeys(re.findall(r"(?m)^  ([a-z][\w-]*) ", help_lines("keep/about.rt"))))
-    return wrong + compared("docs/PROGRAMS.md", "words of cacache-keep", re.findall(r"rt try -- ([\w-]+)", shown), names)
+    return wrong + compared("docs/PROGRAMS.md", "words of cacache-keep", re.findall(r"(?m)^    cacache-keep ([\w-]+)", shown), names)
 
 
 def documents():
-    """The lists of documents, against the files. README lists the pages with names in capital letters alone."""
+    """The lists of documents: README has those in capital letters, CONTRIBUTING the others."""
     there = [str(it.relative_to(TOP)) for it in TOP.glob("docs/*.md")]
     how_to = [str(it.relative_to(TOP)) for it in TOP.glob("docs/how-to/*.md")]
     main = [it for it in there if it.split("/")[1][0].isupper()]
     wrong = []
-    for name, head, wanted in [("README.md", "| Question | Document |", main), ("CONTRIBUTING.md", "| Fact | Document |", there),
-                               ("CONTRIBUTING.md", "| To | Page |", how_to)]:
+    for name, head, wanted in [("README.md", "| Question | Document |", main), ("CONTRIBUTING.md", "| To | Page |", how_to),
+                               ("CONTRIBUTING.md", "| Fact | Document |", {*there} - {*main})]:
         links = re.findall(r"\]\((docs/[\w./-]+)\)", told(name, rf"(?s){re.escape(head)}(.*?)(?:\n\n|\Z)"))
         wrong += compared(name, "documents", links, wanted)
     return wrong

@@ -263,7 +263,7 @@ def defined(text):
         item = re.match(r"(?=abbrev |unfoldable |pub |record |data )(?:abbrev |unfoldable )?(?:pub )?(?:record |data )?(?!use |mod )([^\W\d][^\s:({]*)", plain)
         if last and last.is_record and field and indent == place + 2:
             last.fields[field[1]] = Definition(line, sentence(comment), part, False, {}, re.findall(r"\b[A-Z]\w*", plain))
-        elif item and indent in (0, 2):
+        elif item and indent in (0, 2, 4):
             last, place = Definition(line, sentence(comment), part, "record " in plain[:12], {}, []), indent
             found.setdefault(item[1], last)
         elif last:

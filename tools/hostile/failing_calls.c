@@ -1,9 +1,10 @@
 /* failing_calls: stands before the C library for `tools/hostile/each`, and lets one call on files go wrong.
 
    It counts the program's calls. The one with the number EACH_AT goes wrong as EACH_HOW says: `errno N` (the call isn't made and says N),
-   `stays N` (and so does each later one of its name on the same path), `short` (a read or a write takes half of its bytes), `before`,
-   `half` and `after` (the process is killed before the call, once a half was read or written, or after the call). EACH_TELL is a file that
-   gets a line for that call, and for each call if EACH_AT is 0: its name, and the path or what lies open under its number. */
+   `stays N` (and so does each later one of its name on the same path), `lasts N` (and so does each later one of its name, but not on a
+   stream), `short` (a read or a write takes half of its bytes), `before`, `half` and `after` (the process is killed before the call, once
+   a half was read or written, or after the call). EACH_TELL is a file that gets a line for that call, and for each call if EACH_AT is 0:
+   its name, and the path or what lies open under its number. */
 #define _GNU_SOURCE
 #include <dirent.h>
 #include <dlfcn.h>
@@ -18,7 +19,7 @@
 #include <sys/syscall.h>
 #include <unistd.h>
 
-enum { WELL, ERRNO, STAYS, SHORT, BEFORE, HALF, AFTER };
+enum { WELL, ERRNO, STAYS, LASTS, SHORT, BEFORE, HALF, AFTER };
 static long made, at = -1, said;
 static int how, telling = -1;
 static char staying[4200]; /* the name and the path of the call whose error stays */
@@ -27,9 +28,9 @@ static void begin(void) {
     const char *text = getenv("EACH_AT"), *kind = getenv("EACH_HOW"), *tell = getenv("EACH_TELL");
     at = text ? atol(text) : 0;
     kind = kind ? kind : "";
-    how = !strncmp(kind, "errno ", 6) ? ERRNO : !strncmp(kind, "stays ", 6) ? STAYS : !strcmp(kind, "short") ? SHORT : !strcmp(kind, "before") ? BEFORE
-        : !strcmp(kind, "half") ? HALF : !strcmp(kind, "after") ? AFTER : WELL;
-    said = how == ERRNO || how == STAYS ? atol(kind + 6) : 0;
+    how = !strncmp(kind, "errno ", 6) ? ERRNO : !strncmp(kind, "stays ", 6) ? STAYS : !strncmp(kind, "lasts ", 6) ? LASTS : !strcmp(kind, "short") ? SHORT
+        : !strcmp(kind, "before") ? BEFORE : !strcmp(kind, "half") ? HALF : !strcmp(kind, "after") ? AFTER : WELL;
+    said = how == ERRNO || how == STAYS || how == LASTS ? atol(kind + 6) : 0;
     if (tell) telling = syscall(SYS_openat, AT_FDCWD, tell, O_WRONLY | O_CREAT | O_APPEND | O_CLOEXEC, 0600);
 }
 
@@ -53,15 +54,16 @@ static int due(const char *name, const char *path, int fd) {
     if (fd >= 0 && fd == telling) return WELL;
     long number = __sync_add_and_fetch(&made, 1);
     char line[4200];
-    if (at != 0 && number != at && (how != STAYS || number < at)) return WELL;
+    if (at != 0 && number != at && ((how != STAYS && how != LASTS) || number < at)) return WELL;
     int length = show(line, sizeof line, name, path, fd);
-    if (number > at && at != 0 && strcmp(line, staying)) return WELL;
+    if (number > at && how == LASTS && fd >= 0 && fd < 3) return WELL;
+    if (number > at && at != 0 && strncmp(line, staying, how == LASTS ? strlen(name) + 1 : sizeof line)) return WELL;
     strcpy(staying, line);
     if (telling >= 0 && (at == 0 || number == at)) syscall(SYS_write, telling, line, length);
     if (at == 0) return WELL;
     if (how == BEFORE) end();
-    if (how == ERRNO || how == STAYS) errno = said;
-    return how == STAYS ? ERRNO : how;
+    if (how == ERRNO || how == STAYS || how == LASTS) errno = said;
+    return how == STAYS || how == LASTS ? ERRNO : how;
 }
 
 #define REAL(name) ((__typeof__(&name))dlsym(RTLD_NEXT, #name))

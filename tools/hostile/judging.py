@@ -36,7 +36,7 @@ def values(word, before, ran, done, gone):
             may = {"absent"} if done else {was.value(key), "absent", "missing"}
         if key in excused(gone):
             may |= {"absent", "missing"}
-        if word.words[0] == "repair" and key == "hurt":
+        if word.words[0] == "repair" and key == "hurt" or word.words[0] == "prune" and key in word.made:
             may |= set() if done else {"missing"}
         if word.words[0] == "write" and ran.call.startswith("rename "):
             may.add(was.value(key))  # a commit goes on where its file can't be moved and something stands there, as in the Rust crate
@@ -58,13 +58,17 @@ def files(word, before, ran, how, gone):
             continue
         if path == "c" and kind == "clear":
             continue
+        if kind == "prune" and now is None and path in [f"c/{bucket_path(it)}" for it in word.made]:
+            continue  # without room for a tombstone
+        if what == "folder" and not word.odd and not any(it.startswith(f"{path}/") for it in tree):
+            continue  # empty after removals
         taken = [content_path(it) for it in excused(gone).values()] if kind == "collect" else []
         if path.startswith("c/content-v2/") and now is None and path[2:] in [*word.removes, *taken]:
             continue
         if kind == "sweep" and path.startswith("c/tmp/.tmp") and now is None:
             continue
         if path.startswith("c/index-v5/") and isinstance(now, tuple):
-            if kind == "compact" or kind in ("remove", "repair") and now[1].startswith(what[1]):
+            if kind == "compact" or kind in ("remove", "repair", "prune") and now[1].startswith(what[1]):
                 if now[0] != what[0]:
                     yield "a bucket has another mode", f"{now[0]:o}, not {what[0]:o}"
                 continue
@@ -78,7 +82,7 @@ def files(word, before, ran, how, gone):
 
 def lines(word, ran, gone):
     """What is wrong with the lines that this port can't read, and their contents."""
-    if word.words[0] != "clear" and "foreign" not in excused(gone) and not (gone and at_or_below(f"c/{bucket_path('other')}", gone)):
+    if word.odd and word.words[0] != "clear" and "foreign" not in excused(gone) and not (gone and at_or_below(f"c/{bucket_path('other')}", gone)):
         for key, text in ODD.items():
             if line(text) not in ran.tree.get(f"c/{bucket_path(key)}", (0, b""))[1]:
                 yield "a line that can't be read is gone", key
@@ -96,10 +100,11 @@ def ended(word, plain, ran, how, gone):
         return texts + ([("done with another output", shown)] if ran.out != plain.out and not gone else [])
     if ran.status != 1:
         return [("another status", shown)]
-    mute = ran.call == "write stream"  # the output or the errors themselves fail
+    # the output or the errors themselves fail, or the output names what was left
+    mute = ran.call == "write stream" or word.words[0] == "prune" and b"left " in ran.out
     told = [] if mute or MESSAGE.match(ran.err) and ran.err.endswith("\n") else [("failed without a message", shown)]
     whole = {*plain.out.splitlines()} if word.words[0] == "ls" else set()
-    more = not plain.out.startswith(ran.out) and not {*ran.out.splitlines()} <= whole
+    more = word.words[0] != "prune" and not plain.out.startswith(ran.out) and not {*ran.out.splitlines()} <= whole
     return told + ([("failed with another output", shown)] if more else [])
 
 

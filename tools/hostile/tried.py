@@ -15,8 +15,8 @@ ODD = {"foreign": entry("foreign", FOREIGN, metadata={"a": 0.5}), "other": entry
 class Word:
     """A word with what it is given, the states that it may give to keys, and what it may change."""
 
-    def __init__(self, words, data=b"", made=None, removes=(), program="cacache", looks=False, status=0):
-        self.words, self.data, self.program, self.looks, self.status = words, data, program, looks, status
+    def __init__(self, words, data=b"", made=None, removes=(), program="cacache", looks=False, status=0, odd=True):
+        self.words, self.data, self.program, self.looks, self.status, self.odd = words, data, program, looks, status, odd
         self.made = made or {}  # of a key what it has once the word is done
         self.removes = removes  # the contents that it may remove
 
@@ -49,10 +49,14 @@ def words():
     yield Word(["repair", "--anyway", "c"], made=buried, removes=hurt, program="cacache-keep")
     for word in (["compact"], ["compact", "--durable"]):
         yield Word([*word, "c"], program="cacache-keep")
+    # without odd lines, which refuse them
+    dropped, contents = {it: "absent" for it in (*LIVE, "hurt", "dangling")}, [content_path(it) for it in (*LIVE.values(), *GONE.values(), OLD)]
+    for made, removes, word in [(dropped, contents, ["prune", "-", "0"]), ({}, unused, ["collect", "--grace", "0", "--durable"])]:
+        yield Word([*word, "c"], made=made, removes=removes, program="cacache-keep", odd=False)
 
 
-def prepared():
-    """The tree that each run begins with: the cache `c`, and beside it what no word may touch."""
+def prepared(odd):
+    """The tree that a run begins with: the cache `c`, with odd lines or without, and beside it what no word may touch."""
     tree, buckets = {"outside/kept": b"kept", "outside/linked": LIVE["linked"]}, collections.defaultdict(bytes)
     for key, data in {"over": OLD, **{it: GONE[it] for it in GONE}}.items():
         buckets[key] += line(entry(key, data))
@@ -62,9 +66,10 @@ def prepared():
     for key, data in LIVE.items():
         buckets[key] += line(entry(key, data, 3)) + b"\n" * (key == "b")
         tree[f"c/{content_path(data)}"] = data
-    for key, text in ODD.items():
+    for key, text in ODD.items() if odd else ():
         buckets[key] += line(text)
-    tree[f"c/{content_path(FOREIGN)}"] = FOREIGN
+    if odd:
+        tree[f"c/{content_path(FOREIGN)}"] = FOREIGN
     tree[f"c/{content_path(GONE['hurt'])}"] = b"hurT"
     del tree[f"c/{content_path(GONE['dangling'])}"]
     tree.update({f"c/{bucket_path(key)}": data for key, data in buckets.items()})
