@@ -46,6 +46,7 @@ static int show(char *line, size_t size, const char *name, const char *path, int
     return snprintf(line, size, "%s %s\n", name, path);
 }
 
+static int stays(void) { return how == STAYS || how == LASTS; }
 static void end(void) { syscall(SYS_kill, syscall(SYS_getpid), SIGKILL); }
 
 /* What is to go wrong with this call. */
@@ -54,7 +55,7 @@ static int due(const char *name, const char *path, int fd) {
     if (fd >= 0 && fd == telling) return WELL;
     long number = __sync_add_and_fetch(&made, 1);
     char line[4200];
-    if (at != 0 && number != at && ((how != STAYS && how != LASTS) || number < at)) return WELL;
+    if (at != 0 && number != at && (!stays() || number < at)) return WELL;
     int length = show(line, sizeof line, name, path, fd);
     if (number > at && how == LASTS && fd >= 0 && fd < 3) return WELL;
     if (number > at && at != 0 && strncmp(line, staying, how == LASTS ? strlen(name) + 1 : sizeof line)) return WELL;
@@ -62,8 +63,8 @@ static int due(const char *name, const char *path, int fd) {
     if (telling >= 0 && (at == 0 || number == at)) syscall(SYS_write, telling, line, length);
     if (at == 0) return WELL;
     if (how == BEFORE) end();
-    if (how == ERRNO || how == STAYS || how == LASTS) errno = said;
-    return how == STAYS || how == LASTS ? ERRNO : how;
+    if (how == ERRNO || stays()) errno = said;
+    return stays() ? ERRNO : how;
 }
 
 #define REAL(name) ((__typeof__(&name))dlsym(RTLD_NEXT, #name))
