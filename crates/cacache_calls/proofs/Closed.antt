@@ -1,13 +1,13 @@
 -- Which state leads to which, in one place: every call keeps a property of states that a few moves keep.
 use Rattle.std.proofs.{Common.{arith, ◌≡◌, ◌+◌, ◌-◌, ◌==◌, ℕ, Bool, true, false, cond, nat_le, List, [], ◌∷◌, ◌++◌, Option, None, Some, Result, Ok, length, take, drop, sym, subst}, lemmas.Grind.{common_steps}}
 use Rattle.std.specs.Prelude.{All}
-use Rattle.cacache_core.specs.{declared.errors.{Fault.{Fault}, Error.TheVariants.{IntegrityError, OutOfMemory}, IntegrityFault.TheVariants.{Check}}, Integrity.{actual}, Meeting.{meets}}
+use Rattle.cacache_core.specs.{declared.errors.{Fault.{Fault}, Error.TheVariants.{IntegrityError, OutOfMemory}, IntegrityFault.TheVariants.{Check}}, Integrity.{actual}, Matching.{meets}}
 use Rattle.cacache_core.specs.declared.errors.Fault.TheVariants as faults
 use Rattle.cacache_store.specs.{declared.store.{answer.Name.{Name}, plain.{PlainFile.{PlainFile}, PlainTemp.{PlainTemp}}}, Plain.{PlainStep, PlainAnswer}}
 use Rattle.cacache_store.specs.declared.store.step.Step.TheVariants as steps
-use Rattle.cacache_entry.specs.Latest.{Found}
-use Rattle.cacache_calls.specs.{declared.{answers.Refusal.{Refusal}, reply.Reply.TheVariants.{Copied, Done, Exists, Listed, Read}, carried.{Commit.{Commit}, Lookup.{Lookup}, Content.{Content}}, target.Target.{Target}, visit.{Visit.{Visit, TheVariants.{Enter, ReadBucket, RemoveFolder}}, Task.{Task, TheVariants.{Make, Stumble}}}}, Answers.{done_in, temp_in, written_in, synced_in, there_in, taken_in, bytes_in, file_in, got_in, length_in, names_in}, Common.{ends_with, fails, go_on}, ContentReads.{checked, answer_there, answer_absent}, Exporting.{copied_count}, Inserting.{bucket_line, recorded, after_append}, Linking.{with_size, after_size, after_read, hashed_path}, Looking.{found_in, found_for, after_bucket, no_bucket}, State.{State, doing, creating, writing, syncing, persisting, linking, confirming, appending, looking, reading, asking, sizing, opening_file, hashing, copying, walking, over, Insertion, Hashing, to_link, Errand, make_folder, sync_file, sync_dir, Item, Walk}, StepPaths.{temp_path, content_folder}, Storing.{placed, secured, write_rest, after_write, after_confirm}, Table.{piece, wants, after}, Walking.{EachVisit, most, failed, give, miss, walk_on, tasks_of, leaving, too_many, entered, unread_bucket, listed, visit_step, after_visit, items_in}}
-use Rattle.cacache_calls.proofs.{Branches.{cond_leads, go_on_leads}, Leading.{moves_on, secures, secures_found, records}, Visits.{each_append, MayMeet, each_name, each_leaving}}
+use Rattle.cacache_entry.specs.Bucket.{Found}
+use Rattle.cacache_calls.specs.{declared.{answers.Refusal.{Refusal}, reply.Reply.TheVariants.{Copied, Done, Exists, Listed, Read}, carried.{Commit.{Commit}, Lookup.{Lookup}, Content.{Content}}, target.Target.{Target}, visit.{Visit.{Visit, TheVariants.{Enter, RemoveFolder}}, Task.{Task, TheVariants.{Make, Stumble}}}}, Answers.{done_in, temp_in, written_in, synced_in, file_in, got_in, names_in}, Common.{ends_with, fails, go_on}, Reading.{checked, copied_count, found_for, no_bucket}, Inserting.{bucket_line, recorded, after_append}, Linking.{with_size, after_read, hashed_path}, State.{State, doing, creating, writing, syncing, persisting, linking, confirming, appending, looking, reading, asking, sizing, opening_file, hashing, copying, walking, over, Insertion, Hashing, to_link, Errand, make_folder, sync_file, sync_dir, Item, Walk}, Steps.{temp_path, content_folder}, Storing.{placed, secured, write_rest, after_write, after_confirm}, Table.{piece, wants, after}, Walking.{EachVisit, most, failed, give, miss, walk_on, tasks_of, leaving, too_many, entered, unread_bucket, listed, visit_step, after_visit}}
+use Rattle.cacache_calls.proofs.{Going.{cond_leads, go_on_leads, moves_on, secures, secures_found, records}, Keys.{each_append, MayMeet, each_name, each_leaving}}
 
 -- every walk satisfies this
 abbrev pub AnyWalk : Bool → Type 0

@@ -1,18 +1,13 @@
 -- A call's `IoError` has a cause.
-use Rattle.std.proofs.{Common.{arith, rules, ◌≡◌, ◌⊎◌, inl, inr, ℕ, ◌+◌, ◌-◌, ◌<◌, ◌==◌, List, [], ◌∷◌, ◌++◌, Option, Some, None, Bool, true, false, cond, nat_le, nat_lt, Result, Ok, Err, refl, ◌∙◌, length, drop, take}, lemmas.{Grind.{common_steps}, Bool.{leb-false, eqb-true}}}
-use Rattle.cacache_core.specs.{declared.{errors.{Fault.{Fault}, SerdeCause.{SerdeCause}, IntegrityFault.TheVariants.{Check}, Error.TheVariants.{SizeMismatch, IoError, SerdeError, EntryNotFound, IntegrityError, OutOfMemory}}, integrity.digest.Hash.{Hash}}, Integrity.{actual}, Paths.{join}, Meeting.{meets}}
+use Rattle.std.proofs.{Common.{arith, rules, ◌≡◌, ◌⊎◌, inl, inr, ℕ, ◌+◌, ◌-◌, ◌<◌, List, [], ◌∷◌, ◌++◌, Option, Some, None, Bool, false, nat_le, Result, Ok, Err, refl, length, take}, lemmas.{Grind.{common_steps}, Bool.{leb-false}}}
+use Rattle.cacache_core.specs.{declared.{errors.{Fault.{Fault}, SerdeCause.{SerdeCause}, IntegrityFault.TheVariants.{Check}, Error.TheVariants.{IntegrityError, OutOfMemory}}, integrity.digest.Hash.{Hash}}, Integrity.{actual}, Paths.{join}, Matching.{meets}}
 use Rattle.cacache_core.specs.declared.errors.Fault.TheVariants as faults
-use Rattle.cacache_store.specs.{declared.store.{plain.{PlainTemp.{PlainTemp}, PlainFile.{PlainFile}}, answer.{Kind.{Kind}, Name.{Name}}}, Plain.{PlainStep, PlainAnswer}, Fits.{Fits}}
-use Rattle.cacache_store.specs.declared.store.answer.Kind.TheVariants as kinds
-use Rattle.cacache_store.specs.declared.store.answer.Answer.TheVariants as answers
+use Rattle.cacache_store.specs.{declared.store.{plain.{PlainTemp.{PlainTemp}, PlainFile.{PlainFile}}, answer.{Kind.{Kind}, Name.{Name}}}, Plain.{PlainStep, PlainAnswer, Fits}}
 use Rattle.cacache_store.specs.declared.store.step.Step.TheVariants as steps
-use Rattle.cacache_entry.specs.Latest.{Found}
-use Rattle.cacache_calls.specs.{declared.{answers.Refusal.{Refusal}, command.{Command.{Command}, Export.{Export}, How.{How, TheVariants.{Copy}}}, reply.Reply.{Reply, TheVariants.{Stored, Read, LookedUp, Exists, Copied, Listed, Done, Refused}}, carried.{Commit.{Commit}, Aim.{Aim}, Lookup.{Lookup}, Content.{Content}}, visit.{Visit.{Visit, TheVariants.{Enter, ReadBucket, RemoveFile, RemoveFolder}}, Task.{Task, TheVariants.{Make, Stumble}}}}, Answers.{done_in, temp_in, written_in, synced_in, there_in, taken_in, bytes_in, file_in, got_in, length_in, names_in}, StepPaths.{temp_path, content_path, content_folders, bucket_path, bucket_folders}, State.{State, doing, creating, writing, syncing, persisting, linking, confirming, appending, looking, reading, asking, sizing, opening_file, hashing, copying, walking, over, Site, Insertion, Hashing, to_verify, to_link, Errand, make_folder, remove, sync_file, sync_dir, Item, Walk}, Common.{ends_with, fails, go_on, errand_step, sync_up}, Inserting.{insertion, deletion, unless_refused, refused_cause, bucket_line, recorded, after_append}, Storing.{insertion_of, indexed, sized, matches, compared, placed, secured, secured_found, move_in, write_rest, after_write, after_confirm}, ContentReads.{checked, answer_there, answer_absent}, Exporting.{export_from, export_content, export, copied_count}, Linking.{after_size, hashed_path, hashed, after_read}, Looking.{found_in, found_content, found_for, after_bucket, no_bucket}, Walking.{most, failed, give, miss, walk_on, task_for_name, tasks_of, leaving, too_many, entered, unread_bucket, listed, visit_step, after_visit, items_in}, Table.{piece, wants, after, opening}, Runs.{Moves, Runs}, Causes.{Faults, HasCause, OfWalk, own_of}}
-use Rattle.cacache_calls.proofs.Branches.{cond_leads}
+use Rattle.cacache_entry.specs.Bucket.{Found}
+use Rattle.cacache_calls.specs.{declared.{answers.Refusal.{Refusal}, command.{Command.{Command}, Export.{Export}, How.{How, TheVariants.{Copy}}}, reply.Reply.{Reply, TheVariants.{Read, Exists, Copied, Listed, Done, Refused}}, carried.{Commit.{Commit}, Aim.{Aim}, Lookup.{Lookup}, Content.{Content}}, visit.{Visit.{Visit, TheVariants.{Enter, ReadBucket, RemoveFile, RemoveFolder}}, Task.{Task, TheVariants.{Make, Stumble}}}}, Answers.{done_in, temp_in, written_in, synced_in, there_in, taken_in, bytes_in, file_in, got_in, length_in, names_in}, Steps.{temp_path, content_path, bucket_path}, State.{State, doing, creating, writing, syncing, persisting, linking, confirming, appending, looking, reading, asking, sizing, opening_file, hashing, copying, walking, over, Site, Insertion, Hashing, to_verify, Errand, remove, sync_dir, Item, Walk}, Common.{ends_with, fails, go_on, errand_step, sync_up}, Inserting.{unless_refused, bucket_line, recorded, after_append}, Storing.{indexed, sized, compared, placed, secured, secured_found, move_in, write_rest, after_write, after_confirm}, Reading.{checked, answer_there, answer_absent, export_from, export_content, export, copied_count, found_in, found_for, after_bucket, no_bucket}, Linking.{after_size, hashed_path, hashed, after_read}, Walking.{most, failed, give, miss, walk_on, task_for_name, tasks_of, leaving, too_many, entered, unread_bucket, listed, visit_step, after_visit, items_in}, Table.{piece, wants, after, opening}, Runs.{Moves, Runs}, Promises.{Faults, HasCause, OfWalk, own_of}}
+use Rattle.cacache_calls.proofs.Going.{cond_leads}
 use Rattle.cacache_calls.specs.declared.answers.Refusal.TheVariants as refusals
-use Rattle.cacache_calls.specs.declared.command.Command.TheVariants as commands
-use Rattle.cacache_calls.specs.declared.command.Source.TheVariants as sources
-use Rattle.cacache_calls.specs.declared.carried.Aim.TheVariants as aims
 
 -- ---- what a refusing answer reports
 

@@ -1,13 +1,12 @@
 -- The steps of a commit do nothing; or store its content; or store its content and then append its entry.
-use Rattle.std.proofs.{lemmas.{Grind.{common_steps}, Bool.{leb-true}}, Common.{rules, ◌≡◌, ◌⊎◌, inl, inr, ℕ, ◌+◌, ◌<◌, ◌^◌, ◌==◌, List, [], ◌∷◌, Option, Some, None, Bool, true, nat_le, Result, Ok, Err, refl, sym, subst, length, length-append, drop, arith}}
-use Rattle.cacache_core.specs.declared.{errors.{Fault.{Fault}, SerdeCause.{SerdeCause}, IntegrityFault.TheVariants.{Check}, Error.{Error, TheVariants.{SizeMismatch, IoError, SerdeError, IntegrityError, OutOfMemory}}}, integrity.digest.Hash.{Hash}}
+use Rattle.std.proofs.{lemmas.{Grind.{common_steps}, Bool.{leb-true}}, Common.{rules, ◌≡◌, ◌⊎◌, inl, inr, ℕ, ◌+◌, ◌<◌, ◌^◌, List, [], ◌∷◌, Option, Some, None, Bool, nat_le, Result, refl, sym, subst, length, arith}}
+use Rattle.cacache_core.specs.declared.{errors.{Fault.{Fault}, SerdeCause.{SerdeCause}, Error.{Error, TheVariants.{IoError, OutOfMemory}}}, integrity.digest.Hash.{Hash}}
 use Rattle.cacache_core.specs.declared.errors.Fault.TheVariants as faults
-use Rattle.cacache_store.specs.{declared.store.plain.{PlainTemp.{PlainTemp}, PlainFile.{PlainFile}}, Fits.{Fits}, Plain.{PlainStep, PlainAnswer}}
+use Rattle.cacache_store.specs.{declared.store.plain.{PlainTemp.{PlainTemp}, PlainFile.{PlainFile}}, Plain.{Fits, PlainStep, PlainAnswer}}
 use Rattle.cacache_store.specs.declared.store.answer.Answer.TheVariants as answers
 use Rattle.cacache_store.specs.declared.store.step.Step.TheVariants as steps
-use Rattle.cacache_calls.specs.{declared.{answers.Refusal.{Refusal}, command.{Put.{Put}, Link.{Link}, Insert.{Insert}, Delete.{Delete}}, reply.Reply.{Reply, TheVariants.{Refused}}, carried.Commit.{Commit}, target.Target.{Target}}, Answers.{done_in, temp_in, written_in, synced_in, there_in, taken_in, file_in, got_in, length_in}, StepPaths.{content_path, content_folders, bucket_path, bucket_folders}, State.{State, doing, creating, writing, syncing, persisting, linking, confirming, appending, sizing, opening_file, hashing, over, Site, Insertion, to_link, Errand, make_folder, sync_file, sync_dir}, Common.{ends_with, fails, go_on, errand_step, sync_up}, Inserting.{insertion, deletion, unless_refused, refused_cause, bucket_line, recorded, after_append}, Storing.{insertion_of, indexed, sized, matches, compared, placed, secured, secured_found, move_in, write_rest, after_write, after_confirm, put_commit}, Linking.{link_target, after_size, after_read}, Table.{piece, wants, after, opening}, Runs.{Moves, Runs}, Effects.{Effect, stored, sent, if_done, if_there, effect, effects_of, IsRefused, DoesNothing, TookAll, Sends, Inserts, Indexes, Commits, Links, OnlyChanges}}
-use Rattle.cacache_calls.proofs.Branches.{cond_leads, go_on_leads}
-use Rattle.cacache_calls.specs.declared.answers.Refusal.TheVariants as refusals
+use Rattle.cacache_calls.specs.{declared.{answers.Refusal.{Refusal}, command.{Put.{Put}, Link.{Link}, Insert.{Insert}, Delete.{Delete}}, reply.Reply.{Reply, TheVariants.{Refused}}, carried.Commit.{Commit}, target.Target.{Target}}, Answers.{done_in, temp_in, written_in, synced_in, there_in, taken_in, file_in, got_in, length_in}, Steps.{content_path, content_folders, bucket_path, bucket_folders}, State.{State, doing, creating, writing, syncing, persisting, linking, confirming, appending, sizing, opening_file, hashing, over, Site, Insertion, to_link, Errand, make_folder, sync_file, sync_dir}, Common.{ends_with, fails, go_on, errand_step, sync_up}, Inserting.{insertion, deletion, unless_refused, refused_cause, bucket_line, recorded, after_append}, Storing.{insertion_of, indexed, sized, compared, placed, secured, secured_found, move_in, write_rest, after_write, after_confirm, put_commit}, Linking.{link_target, after_size, after_read}, Table.{piece, wants, after, opening}, Runs.{Moves, Runs}, Effects.{Effect, stored, sent, if_done, if_there, effect, effects_of, IsRefused, DoesNothing, TookAll, Sends, Inserts, Indexes, Commits, Links, OnlyChanges}}
+use Rattle.cacache_calls.proofs.Going.{cond_leads, go_on_leads}
 use Rattle.cacache_calls.specs.declared.command.Command.TheVariants as commands
 
 -- the effects of a run from a state

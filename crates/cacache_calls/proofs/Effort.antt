@@ -1,14 +1,14 @@
 -- Runs end: each answer lowers the bound on the remaining steps.
 use Rattle.std.proofs.{Common.{◌≡◌, ℕ, zero, suc, ◌+◌, ◌*◌, ◌-◌, ◌^◌, ◌<◌, ◌≤◌, ◌==◌, List, [], ◌∷◌, ◌++◌, Option, Some, None, Bool, true, false, cond, nat_le, nat_lt, Ok, refl, ap, ◌∙◌, length, drop, take, arith, length-drop}, lemmas.Bool.{eqb-false, leb-true}}
-use Rattle.cacache_core.specs.{declared.{errors.{Fault.{Fault}, SerdeCause.{SerdeCause}, IntegrityFault.TheVariants.{Check}, Error.TheVariants.{SizeMismatch, IntegrityError}}, integrity.digest.Hash.{Hash}}, Integrity.{actual, address}, Paths.{join, folders_to, content_names}, Meeting.{meets}}
+use Rattle.cacache_core.specs.{declared.{errors.{Fault.{Fault}, SerdeCause.{SerdeCause}, IntegrityFault.TheVariants.{Check}, Error.TheVariants.{SizeMismatch, IntegrityError}}, integrity.digest.Hash.{Hash}}, Integrity.{actual, address}, Paths.{join, folders_to, content_names}, Matching.{meets}}
 use Rattle.cacache_core.specs.declared.errors.Fault.TheVariants as faults
-use Rattle.cacache_store.specs.{declared.store.{plain.{PlainTemp.{PlainTemp}, PlainFile.{PlainFile}}, answer.{Kind.{Kind}, Name.{Name}}}, Plain.{PlainStep, PlainAnswer}, Fits.{Fits}}
+use Rattle.cacache_store.specs.{declared.store.{plain.{PlainTemp.{PlainTemp}, PlainFile.{PlainFile}}, answer.{Kind.{Kind}, Name.{Name}}}, Plain.{PlainStep, PlainAnswer, Fits}}
 use Rattle.cacache_store.specs.declared.store.answer.Kind.TheVariants as kinds
 use Rattle.cacache_store.specs.declared.store.answer.Answer.TheVariants as answers
 use Rattle.cacache_store.specs.declared.store.step.Step.TheVariants as steps
-use Rattle.cacache_entry.specs.Latest.{Found}
-use Rattle.cacache_calls.specs.{declared.{command.{Export.{Export}, How.{How, TheVariants.{Copy}}}, reply.Reply.TheVariants.{Read, Exists, Copied, Listed, Done}, carried.{Commit.{Commit}, Aim.{Aim}, Lookup.{Lookup}, Content.{Content}}, visit.{Visit.{Visit, TheVariants.{Enter, ReadBucket, RemoveFile, RemoveFolder}}, Task.{Task, TheVariants.{Make, Stumble}}}}, Answers.{done_in, temp_in, written_in, synced_in, there_in, taken_in, bytes_in, file_in, got_in, length_in, names_in}, StepPaths.{content_path, addressed, content_folders, bucket_path, bucket_folders}, State.{State, doing, creating, writing, syncing, persisting, linking, confirming, appending, looking, reading, asking, sizing, opening_file, hashing, copying, walking, over, Insertion, Hashing, to_verify, to_link, Item, Walk, sync_file, sync_dir}, Common.{ends_with, fails, sync_up}, Inserting.{unless_refused, refused_cause, bucket_line, recorded, after_append}, Storing.{insertion_of, indexed, sized, matches, compared, placed, secured, secured_found, move_in, write_rest, after_write, after_confirm}, ContentReads.{checked}, Exporting.{export_from, export, copied_count}, Linking.{after_size, hashed_path, hashed, after_read}, Looking.{found_in, found_for, after_bucket, no_bucket}, Walking.{most, failed, give, miss, walk_on, go_deeper, task_for_name, tasks_of, leaving, too_many, entered, unread_bucket, after_visit, items_in}, Table.{piece, wants, after}, Runs.{weight, weights, effort}}
-use Rattle.cacache_calls.proofs.Branches.{cond_leads, go_on_leads}
+use Rattle.cacache_entry.specs.Bucket.{Found}
+use Rattle.cacache_calls.specs.{declared.{command.{Export.{Export}, How.{How, TheVariants.{Copy}}}, reply.Reply.TheVariants.{Read, Exists, Copied, Listed, Done}, carried.{Commit.{Commit}, Aim.{Aim}, Lookup.{Lookup}, Content.{Content}}, visit.{Visit.{Visit, TheVariants.{Enter, ReadBucket, RemoveFile, RemoveFolder}}, Task.{Task, TheVariants.{Make, Stumble}}}}, Answers.{done_in, temp_in, written_in, synced_in, there_in, taken_in, bytes_in, file_in, got_in, length_in, names_in}, Steps.{content_path, addressed, content_folders, bucket_path, bucket_folders}, State.{State, doing, creating, writing, syncing, persisting, linking, confirming, appending, looking, reading, asking, sizing, opening_file, hashing, copying, walking, over, Insertion, Hashing, to_verify, to_link, Item, Walk, sync_file, sync_dir}, Common.{ends_with, fails, sync_up}, Inserting.{unless_refused, refused_cause, bucket_line, recorded, after_append}, Storing.{insertion_of, indexed, sized, matches, compared, placed, secured, secured_found, move_in, write_rest, after_write, after_confirm}, Reading.{checked, export_from, export, copied_count, found_in, found_for, after_bucket, no_bucket}, Linking.{after_size, hashed_path, hashed, after_read}, Walking.{most, failed, give, miss, walk_on, go_deeper, task_for_name, tasks_of, leaving, too_many, entered, unread_bucket, after_visit, items_in}, Table.{piece, wants, after}, Runs.{weight, weights, effort}}
+use Rattle.cacache_calls.proofs.Going.{cond_leads, go_on_leads}
 use Rattle.cacache_calls.specs.declared.carried.Aim.TheVariants as aims
 
 abbrev Below : ℕ → State → Type 0

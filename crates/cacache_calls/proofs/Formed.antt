@@ -2,8 +2,8 @@
 use Rattle.std.{proofs.Common.{◌≡◌, ℕ, ◌<◌, ◌^◌, List, Option, None, Some, sym, subst, ◌∙◌, arith}, specs.Prelude.{IsUtf8}}
 use Rattle.cacache_core.specs.declared.integrity.digest.Hash.{Hash}
 use Rattle.cacache_entry.{specs.FittingEntries.{IsUtf8IfAny, AreBytes, IsJson}, proofs.WellRead.{IsJson-null}}
-use Rattle.cacache_calls.specs.{declared.{carried.Commit.{Commit}, command.Options.{Options}}, Formed.{FormsCommand, FormsCommit, FormsEntries}, Inserting.{given_text, given_size, refused_cause}, State.{Site}}
-use Rattle.cacache_calls.proofs.IntegrityUtf8.{integrity_utf8}
+use Rattle.cacache_calls.specs.{declared.{carried.Commit.{Commit}, command.Options.{Options}}, Sound.{FormsCommand, FormsCommit, FormsEntries}, Inserting.{given_text, given_size, refused_cause}, State.{Site}}
+use Rattle.cacache_calls.proofs.Telling.{integrity_utf8}
 use Rattle.cacache_calls.specs.declared.command.Link as links
 use Rattle.cacache_calls.specs.declared.command.Insert as inserts
 use Rattle.cacache_calls.specs.declared.command.Delete as deletes

@@ -1,6 +1,4 @@
-pub mod Branches
 pub mod Effort
-pub mod Memory
 pub mod Promises
 pub mod Replies
 pub mod Effects
@@ -9,13 +7,9 @@ pub mod Keys
 pub mod EarnedErrors
 pub mod Rows
 pub mod Sound
-pub mod Leading
-pub mod Visits
 pub mod Closed
 pub mod Within
 pub mod Verifying
 pub mod Going
-pub mod ReplyKinds
 pub mod Telling
-pub mod IntegrityUtf8
 pub mod Formed

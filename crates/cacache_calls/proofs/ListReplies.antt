@@ -1,11 +1,10 @@
 -- A listing returns what its own steps returned.
-use Rattle.std.proofs.{lemmas.{Grind.{common_steps}, Bool.{leb-false}, List.{length-take}}, Common.{rules, ◌≡◌, ◌⊎◌, inl, inr, ℕ, ◌+◌, ◌-◌, ◌<◌, List, [], ◌∷◌, ◌++◌, Option, Some, None, Bool, true, false, cond, nat_le, nat_lt, Result, Ok, Err, refl, ap, ◌∙◌, length, take, length-append, append_assoc, append-nil, arith}}
+use Rattle.std.proofs.{lemmas.{Grind.{common_steps}, Bool.{leb-false}, List.{length-take}}, Common.{rules, ◌≡◌, ◌⊎◌, inl, inr, ℕ, ◌+◌, ◌-◌, ◌<◌, List, [], ◌∷◌, ◌++◌, Option, Some, None, Bool, true, false, cond, nat_le, Result, Ok, Err, refl, ap, length, take, length-append, append-nil, arith}}
 use Rattle.cacache_core.specs.{declared.errors.{Fault.{Fault}, Error.TheVariants.{OutOfMemory}}, Paths.{join}}
 use Rattle.cacache_core.specs.declared.errors.Fault.TheVariants as faults
 use Rattle.cacache_store.specs.{declared.store.answer.{Kind.{Kind}, Name.{Name}}, Plain.{PlainStep, PlainAnswer}}
-use Rattle.cacache_store.specs.declared.store.answer.Kind.TheVariants as kinds
-use Rattle.cacache_calls.specs.{declared.{answers.Refusal.{Refusal}, reply.Reply.{Reply, TheVariants.{Listed, Done, Refused}}, visit.{Visit.{Visit, TheVariants.{Enter, ReadBucket, RemoveFile, RemoveFolder}}, Task.{Task, TheVariants.{Make, Stumble}}}}, Answers.{bytes_in, names_in}, State.{State, walking, over, Site, Item, Walk}, Common.{fails, go_on}, Walking.{most, failed, give, miss, walk_on, task_for_name, tasks_of, leaving, too_many, entered, unread_bucket, listed, items_in}, Table.{wants, after, opening}, Runs.{Moves, Runs}, ListReplies.{by_bucket, by_folder, given_by, items_given, too_deep, AddsTooDeep, ListsGiven}}
-use Rattle.cacache_calls.proofs.Branches.{cond_leads}
+use Rattle.cacache_calls.specs.{declared.{answers.Refusal.{Refusal}, reply.Reply.{Reply, TheVariants.{Listed, Done, Refused}}, visit.{Visit.{Visit, TheVariants.{Enter, ReadBucket, RemoveFile, RemoveFolder}}, Task.{Task, TheVariants.{Make, Stumble}}}}, Answers.{bytes_in, names_in}, State.{State, walking, over, Site, Item, Walk}, Common.{fails, go_on}, Walking.{most, failed, give, miss, walk_on, task_for_name, tasks_of, leaving, too_many, entered, unread_bucket, listed, items_in}, Table.{wants, after, opening}, Runs.{Moves, Runs}, Replies.{by_bucket, by_folder, given_by, items_given, too_deep, AddsTooDeep, ListsGiven}}
+use Rattle.cacache_calls.proofs.Going.{cond_leads}
 use Rattle.cacache_calls.specs.declared.answers.Refusal.TheVariants as refusals
 use Rattle.cacache_calls.specs.declared.command.Command.TheVariants as commands
 
@@ -55,7 +54,7 @@ adds_same : (front tail items : List Item) → AddsTooDeep tail items → AddsTo
 adds_same [] tail items h = h
 adds_same (x ∷ front) tail items h = inr (front ++ items, refl, adds_same front tail items h)
 
-pick : (P : State → Type 0) (b : Bool) (s t : State) → b ≡ false → P (cond b s t) → P t
+pub pick : (P : State → Type 0) (b : Bool) (s t : State) → b ≡ false → P (cond b s t) → P t
 pick P b s t e h = grind (arith, common_steps)
 
 module _ (r : Reply) where

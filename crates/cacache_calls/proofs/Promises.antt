@@ -1,14 +1,23 @@
--- A call's reply keeps what its state promises, whatever the answers are.
-use Rattle.std.proofs.{Common.{arith, rules, ◌≡◌, inl, inr, ℕ, ◌==◌, List, [], ◌∷◌, ◌++◌, Option, Some, None, Bool, true, false, refl, subst, ◌∙◌, length, append_assoc, append-nil}, lemmas.{Grind.{common_steps}, Bool.{eqb-true}}}
-use Rattle.cacache_core.specs.{declared.{errors.{Fault.{Fault}, SerdeCause.{SerdeCause}, IntegrityFault.TheVariants.{Check}, Error.{Error, TheVariants.{SizeMismatch, IoError, SerdeError, EntryNotFound, IntegrityError, OutOfMemory}}}, integrity.digest.Hash.{Hash}}, Integrity.{Meets, actual}, Meeting.{meets}}
+-- A call's reply keeps what its state promises, whatever the answers are, and so is of a kind.
+use Rattle.std.proofs.{Common.{List, arith, rules, ◌≡◌, inl, inr, ℕ, [], ◌∷◌, ◌++◌, Option, Some, Bool, true, refl, length, append-nil}, lemmas.Grind.{common_steps}}
+use Rattle.cacache_core.specs.{declared.{integrity.digest.Hash.{Hash}, errors.{Fault.{Fault}, SerdeCause.{SerdeCause}, Error.{Error, TheVariants.{IoError, OutOfMemory}}}}, Integrity.{Meets}}
 use Rattle.cacache_core.proofs.Meeting.{meets_finds}
+use Rattle.cacache_calls.specs.{declared.{reply.Reply.{Reply, TheVariants.{Stored, Read, Refused, Copied, Done}}, command.{Command.{Command}, Export.{Export}, How.{How}}, carried.{Commit.{Commit}, Aim.{Aim}, Lookup.{Lookup}, Content.{Content}}, target.Target.{Target}}, Promises.{OnlyStores, OnlyReads, ReadsMeeting, StoresIf, Only, OnlyCopies, Copies, MadeOf, answered, Suits, StoresSized, Stores, StoresRead, Exports, Aims, Hashes, Walks, Promises, Answers}, State.{State, doing, looking, opening_file, hashing, walking, over, Site, Insertion, Hashing}, Common.{ends_with, fails}, Inserting.{unless_refused}, Storing.{indexed, sized, matches, compared, placed}, Reading.{export_from, export, verified, copied_count, found_for}, Linking.{with_size, commit_for, hashed, after_read}, Table.{after, opening}, Runs.{Moves, Runs}}
+use Rattle.cacache_calls.proofs.{Going.{cond_leads}, Closed.{AnyAnswer, ClosedCommit, ClosedReads, ClosedFiles, ClosedWalk, Closed, kept_always}, Keys.{AnyVisit, any_visits}}
 use Rattle.cacache_store.specs.{declared.store.plain.PlainFile.{PlainFile}, Plain.{PlainAnswer}}
-use Rattle.cacache_entry.specs.Latest.{Found}
-use Rattle.cacache_calls.specs.{declared.{command.{Command.{Command}, Export.{Export}, How.{How, TheVariants.{Copy}}}, reply.Reply.{Reply, TheVariants.{Stored, Read, LookedUp, Exists, Copied, Listed, Done, Refused}}, carried.{Commit.{Commit}, Aim.{Aim}, Lookup.{Lookup}, Content.{Content}}, target.Target.{Target}}, StepPaths.{content_path}, State.{State, doing, looking, opening_file, hashing, walking, over, Site, Insertion, Hashing, to_verify, to_link}, Common.{ends_with, fails}, Inserting.{insertion, deletion, unless_refused, refused_cause}, Storing.{insertion_of, indexed, sized, matches, compared, placed}, Exporting.{export_from, export_content, export, verified, copied_count}, Linking.{with_size, commit_for, hashed, after_read}, Looking.{found_content, found_for}, Table.{after, opening}, Runs.{Moves, Runs}, Promises.{Only, OnlyExists, OnlyCopies, Copies, MadeOf, ReadsMeeting, answered, Suits, StoresIf, StoresSized, Stores, StoresRead, Exports, Aims, Hashes, Walks, Promises, Answers}}
-use Rattle.cacache_calls.proofs.{Branches.{cond_leads}, Closed.{AnyAnswer, ClosedCommit, ClosedReads, ClosedFiles, ClosedWalk, Closed, kept_always}, ReplyKinds.{meeting_only}, Visits.{AnyVisit, any_visits}}
-use Rattle.cacache_calls.specs.declared.command.Command.TheVariants as commands
-use Rattle.cacache_calls.specs.declared.command.Source.TheVariants as sources
-use Rattle.cacache_calls.specs.declared.carried.Aim.TheVariants as aims
+use Rattle.cacache_entry.specs.Bucket.{Found}
+
+-- a reply that may store one integrity is of the storing kind
+pub stores_only : (i : List Hash) (P : Type 0) (r : Reply) → StoresIf i P r → OnlyStores r
+stores_only i P (Stored j) h = tt
+stores_only i P (Refused e) h = tt
+stores_only i P r h = absurd h
+
+-- bytes that match an integrity are bytes
+pub meeting_only : (i : List Hash) (r : Reply) → ReadsMeeting i r → OnlyReads r
+meeting_only i (Read bytes) h = tt
+meeting_only i (Refused e) h = tt
+meeting_only i r h = absurd h
 
 -- ---- refusals keep every promise
 

@@ -1,13 +1,10 @@
 -- The replies of lookups and reads follow from the answers to their own steps.
-use Rattle.std.proofs.{Common.{arith, rules, ◌≡◌, ◌⊎◌, inl, inr, ℕ, List, [], ◌∷◌, Option, Some, None, Bool, true, false, cond, Result, Ok, Err, refl, sym, ◌∙◌}, lemmas.{Grind.{common_steps}, Option.{same_Some}}}
-use Rattle.cacache_core.specs.declared.errors.Fault.TheVariants as faults
-use Rattle.cacache_core.specs.{declared.{errors.{IntegrityFault.TheVariants.{Check}, Error.TheVariants.{EntryNotFound, IntegrityError, OutOfMemory}}, integrity.digest.Hash.{Hash}}, Integrity.{Meets, actual}, Meeting.{meets}}
-use Rattle.cacache_core.proofs.Meeting.{meets_finds}
+use Rattle.std.proofs.{Common.{arith, rules, ◌≡◌, ◌⊎◌, inl, inr, ℕ, List, [], ◌∷◌, Option, Some, None, Bool, Result, Ok, refl, sym, ◌∙◌}, lemmas.{Grind.{common_steps}, Option.{same_Some}}}
+use Rattle.cacache_core.{specs.{declared.{errors.Error.TheVariants.{OutOfMemory}, integrity.digest.Hash.{Hash}}, Integrity.{Meets}}, proofs.Meeting.{meets_finds}}
 use Rattle.cacache_store.specs.declared.store.step.Step.TheVariants as steps
 use Rattle.cacache_store.specs.Plain.{PlainStep, PlainAnswer}
-use Rattle.cacache_entry.specs.Latest.{Found}
-use Rattle.cacache_calls.specs.{declared.{answers.Refusal.{Refusal}, reply.Reply.{Reply, TheVariants.{Read, Refused}}, carried.{Lookup.{Lookup}, Content.{Content}}}, Answers.{there_in, bytes_in}, StepPaths.{content_path, bucket_path}, State.{State, looking, reading, asking, over, Site}, Common.{ends_with, fails, go_on}, ContentReads.{checked, answer_there, answer_absent}, Looking.{found_in, found_for, after_bucket, no_bucket}, Table.{wants, after, opening}, Runs.{Moves, Runs}, Replies.{bucket_shown, entries_shown, lookup, refusal_reply, find_reply, content_reply, there_reply, OneStep, OneRun, ReadsBucketOnce, ReadsContentOnce, AsksContentOnce, ReadsOn, ReadsByKey, BeginsWithBucket, MeetsFound, OrMemory}}
-use Rattle.cacache_calls.specs.declared.answers.Refusal.TheVariants as refusals
+use Rattle.cacache_entry.specs.Bucket.{Found}
+use Rattle.cacache_calls.specs.{declared.{answers.Refusal.{Refusal}, reply.Reply.{Reply, TheVariants.{Read, Refused}}, carried.{Lookup.{Lookup}, Content.{Content}}}, Answers.{there_in, bytes_in}, Steps.{content_path, bucket_path}, State.{State, looking, reading, asking, over, Site}, Common.{fails, go_on}, Reading.{checked, answer_there, answer_absent, found_in, found_for, after_bucket, no_bucket}, Table.{wants, after, opening}, Runs.{Moves, Runs}, Replies.{bucket_shown, entries_shown, lookup, find_reply, content_reply, there_reply, OneStep, OneRun, ReadsBucketOnce, ReadsContentOnce, AsksContentOnce, ReadsOn, ReadsByKey, BeginsWithBucket, MeetsFound, OrMemory}}
 use Rattle.cacache_calls.specs.declared.command.Command.TheVariants as commands
 use Rattle.cacache_calls.specs.declared.carried.Aim.TheVariants as aims
 

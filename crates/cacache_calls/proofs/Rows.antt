@@ -1,6 +1,6 @@
 -- Computation proves the rows.
 use Rattle.std.proofs.{Common.{◌≡◌, ℕ, true, nat_le, refl}, lemmas.Bool.{le-leb}, Math.Nat.{le_refl}}
-use Rattle.cacache_calls.specs.{StepPaths.{content_folders, bucket_folders}, Rows.{Rows}}
+use Rattle.cacache_calls.specs.{Steps.{content_folders, bucket_folders}, Rows.{Rows}}
 
 whole : (n : ℕ) → nat_le n n ≡ true
 whole n = le-leb n n (le_refl n)

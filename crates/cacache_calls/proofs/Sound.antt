@@ -1,15 +1,13 @@
 -- Sound states make allowed steps, and stay sound.
-use Rattle.std.proofs.{lemmas.{Grind.{common_steps}, List.Elements.{All-append, All-nil, All-cons, All-weaker}}, Common.{rules, ◌≡◌, inl, inr, ℕ, ◌+◌, ◌<◌, ◌^◌, ◌==◌, List, [], ◌∷◌, ◌++◌, Option, Some, None, Bool, true, false, Ok, refl, ap, ap₂, sym, subst, ◌∙◌, length, length-append, arith}}
-use Rattle.cacache_core.specs.{declared.{errors.{SerdeCause.{SerdeCause}, IntegrityFault.TheVariants.{Check}, Error.TheVariants.{SizeMismatch, IntegrityError}}, integrity.digest.Hash.{Hash}}, Integrity.{actual}, Paths.{index_area, join, joined}, PathNames.{IsProperName}, Meeting.{meets}}
-use Rattle.cacache_store.specs.{declared.store.{plain.{PlainTemp.{PlainTemp}, PlainFile.{PlainFile}}, answer.Name.{Name}}, Plain.{PlainStep, PlainAnswer}, Fits.{Fits, AreProperNames}}
-use Rattle.cacache_store.specs.declared.store.answer.Answer.TheVariants as answers
+use Rattle.std.proofs.{lemmas.{Grind.{common_steps}, List.Elements.{All-append, All-nil, All-cons, All-weaker}}, Common.{rules, ◌≡◌, inl, inr, ℕ, ◌+◌, ◌<◌, ◌^◌, List, [], ◌∷◌, ◌++◌, Option, Some, None, Bool, true, Ok, refl, ap, ap₂, sym, subst, ◌∙◌, length, length-append, arith}}
+use Rattle.cacache_core.specs.{declared.{errors.SerdeCause.{SerdeCause}, integrity.digest.Hash.{Hash}}, Paths.{index_area, join, joined, IsProperName}}
+use Rattle.cacache_store.specs.{declared.store.{plain.{PlainTemp.{PlainTemp}, PlainFile.{PlainFile}}, answer.Name.{Name}}, Plain.{PlainStep, PlainAnswer, Fits, AreProperNames}}
 use Rattle.cacache_store.specs.declared.store.step.Step.TheVariants as steps
-use Rattle.cacache_entry.specs.Latest.{Found}
-use Rattle.cacache_calls.specs.{declared.{command.{Command.{Command}, Export.{Export}, How.{How, TheVariants.{Copy}}}, carried.{Commit.{Commit}, Aim.{Aim}, Lookup.{Lookup}, Content.{Content}}, target.Target.{Target}, visit.Visit.{Visit, TheVariants.{RemoveFile, RemoveFolder}}}, Answers.{temp_in, written_in, synced_in, names_in}, StepPaths.{temp_path, content_path, content_folder, bucket_path, bucket_folder}, State.{State, doing, creating, writing, syncing, persisting, linking, appending, opening_file, copying, walking, over, Site, Insertion, Hashing, to_verify, to_link}, Common.{ends_with}, Inserting.{insertion, deletion, unless_refused, refused_cause, bucket_line}, Storing.{insertion_of, indexed, sized, matches, compared, placed}, Removing.{remove_found}, Exporting.{export_from, export_content, export}, Linking.{commit_for, hashed_path, hashed, after_read}, Looking.{found_content, found_for}, Walking.{visit_step}, Table.{wants, after, opening}, Sound.{SoundCommit, SoundInsertion, SoundTarget, IsBelow, IsContent, IsFolder, IsLine, SoundVisit, Allowed, SoundAim, SoundHashing, Sound, MayBegin}}
-use Rattle.cacache_calls.proofs.{Effort.{opened, left_after}, Closed.{AnyWalk, ClosedCommit, ClosedFiles, ClosedWalk, Closed, kept}, Branches.{cond_leads}, Visits.{MayMeet}}
+use Rattle.cacache_entry.specs.Bucket.{Found}
+use Rattle.cacache_calls.specs.{declared.{command.{Command.{Command}, Export.{Export}, How.{How}}, carried.{Commit.{Commit}, Aim.{Aim}, Lookup.{Lookup}, Content.{Content}}, target.Target.{Target}, visit.Visit.{Visit}}, Answers.{temp_in, written_in, synced_in, names_in}, Steps.{content_path, content_folder, bucket_path}, State.{State, opening_file, Site, Insertion, Hashing, to_verify}, Inserting.{insertion, deletion, unless_refused, refused_cause, bucket_line}, Storing.{indexed, sized, compared, placed}, Removing.{remove_found}, Reading.{export_from, export_content, export, found_for}, Linking.{commit_for, hashed, after_read}, Walking.{visit_step}, Table.{wants, after, opening}, Sound.{SoundCommit, SoundInsertion, SoundTarget, IsBelow, IsContent, IsFolder, IsLine, SoundVisit, Allowed, SoundAim, SoundHashing, Sound, MayBegin}}
+use Rattle.cacache_calls.proofs.{Effort.{opened, left_after}, Closed.{AnyWalk, ClosedCommit, ClosedFiles, ClosedWalk, Closed, kept}, Going.{cond_leads}, Keys.{MayMeet}}
 use Rattle.cacache_calls.specs.declared.command.Command.TheVariants as commands
 use Rattle.cacache_calls.specs.declared.command.Source.TheVariants as sources
-use Rattle.cacache_calls.specs.declared.carried.Aim.TheVariants as aims
 
 -- a consequence of an equation of steps
 pub some_is : (P : PlainStep → Type 0) (a b : PlainStep) → Some a ≡ Some b → P a → P b

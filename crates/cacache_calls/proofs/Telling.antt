@@ -1,16 +1,15 @@
--- A value prints as UTF-8, with names in order and numbers in range, because its parts do.
-use Rattle.std.proofs.{lemmas.{Grind.{common_steps}, Bool.{or_parts}, Fmt.{IsAscii-decimal, IsAscii-signed}, Str.{IsUtf8-append, IsUtf8-from_ascii, IsUtf8-nil, IsUtf8-string_bytes}}, Common.{◌≡◌, ℕ, pos, negsuc, List, [], ◌∷◌, Bool, true, false, refl, arith, string_bytes, String, Global, BTreeMap, string_cmp, Less, Vec, subst, sym, rules}}
-use Rattle.std.specs.{Prelude.{IsUtf8, decimal}, Fmt.{signed_decimal}, List.{AllByRecursion, Sorted.{IsStrictlySortedBy}}, Map.{keys_of}}
+-- A value and an integrity print as UTF-8, with names in order and numbers in range, because their parts do.
+use Rattle.std.proofs.{lemmas.{Grind.{common_steps}, Bool.{or_parts, ltb-true, and_parts}, Fmt.{IsAscii-decimal, IsAscii-signed}, Str.{IsUtf8-append, IsUtf8-from_ascii, IsUtf8-nil, IsUtf8-string_bytes, Ascii.{IsAscii-nil, IsAscii-cons}}}, Common.{◌≡◌, ℕ, pos, negsuc, List, [], ◌∷◌, Bool, true, false, refl, arith, string_bytes, String, Global, BTreeMap, string_cmp, Less, Vec, subst, sym, rules, ◌&&◌}}
+use Rattle.std.specs.{Prelude.{IsUtf8, decimal, nat_lt}, Fmt.{signed_decimal}, List.{AllByRecursion, Sorted.{IsStrictlySortedBy}}, Map.{keys_of}, Str.{IsAscii}}
 use Rattle.json.{specs.Print.{quoted}, proofs.Printed.Utf8.{IsUtf8-are_ascii, IsUtf8-quoted}}
 use Rattle.serde_json.specs.{Data.{Num, unsigned, negative, float, null, boolean, number, string, array, object, Items, no_items, item, Members, no_members, member}, Written.{comma_if, compact_text, number_text, items_text, members_text, has_float, items_have_float, members_have_float}, View.{view, number_view, items_view, members_view}, declared.{number.Number.{Number}, value.Value.{Value, the_lemmas}}}
 use Rattle.serde_json.proofs.Views.{view-Array, view-Object}
-use Rattle.serde_json.specs.declared.value.Value as value
 use Rattle.cacache_entry.specs.FittingEntries.{IsJson, AreAbove, ItemsAreOrdered, MembersAreOrdered, IsWholeNumber, ItemsAreWhole, MembersAreWhole}
-use Rattle.cacache_calls.specs.Known.{IsRanged, AllJson, NamedJson}
-
-IsUtf8-comma_if : (later : Bool) → IsUtf8 (comma_if later)
-IsUtf8-comma_if true = IsUtf8-are_ascii (44 ∷ []) refl
-IsUtf8-comma_if false = IsUtf8-nil
+use Rattle.cacache_entry.proofs.EntryUtf8.{IsUtf8-comma_if}
+use Rattle.cacache_calls.specs.JsonCode.{IsRanged, AllJson, NamedJson}
+use Rattle.base64.{specs.Engines.{standard}, proofs.EngineFacts.{IsAscii-encode_of}}
+use Rattle.cacache_core.specs.{declared.integrity.{algorithm.Algorithm.{Algorithm, TheVariants.{Sha1, Sha256, Sha384, Sha512}}, digest.Hash.{Hash}}, Texts.{name_of, hash_text, integrity_text}}
+use Rattle.serde_json.specs.declared.value.Value as value
 
 -- ---- numbers
 
@@ -113,3 +112,32 @@ of_array v h = subst IsJson (sym (view-Array v)) (IsJson-array (items_view v.ite
 
 pub of_object : (m : BTreeMap (String Global) Value) → IsStrictlySortedBy string_cmp (keys_of m.entries) → NamedJson (members_view m.entries) → IsJson (view (value.Object m))
 of_object m s h = subst IsJson (sym (view-Object m)) (IsJson-object m.entries s h)
+
+-- ---- the text of an integrity is UTF-8
+
+abbrev are_ascii : List ℕ → Bool
+are_ascii [] = true
+are_ascii (b ∷ bs) = nat_lt b 128 && are_ascii bs
+
+ascii_so : (bs : List ℕ) → are_ascii bs ≡ true → IsAscii bs
+ascii_so [] h = IsAscii-nil
+ascii_so (b ∷ bs) h = IsAscii-cons b bs (ltb-true b 128 (and_parts _ _ h).0) (ascii_so bs (and_parts _ _ h).1)
+
+ascii_utf8 : (bs : List ℕ) → are_ascii bs ≡ true → IsUtf8 bs
+ascii_utf8 bs h = IsUtf8-from_ascii bs (ascii_so bs h)
+
+name_utf8 : (a : Algorithm) → IsUtf8 (name_of a)
+name_utf8 Sha1 = ascii_utf8 (name_of Sha1) refl
+name_utf8 Sha256 = ascii_utf8 (name_of Sha256) refl
+name_utf8 Sha384 = ascii_utf8 (name_of Sha384) refl
+name_utf8 Sha512 = ascii_utf8 (name_of Sha512) refl
+
+hash_utf8 : (h : Hash) → IsUtf8 (hash_text h)
+hash_utf8 h =
+    IsUtf8-append (name_of h.algorithm) _ (name_utf8 h.algorithm)
+    (IsUtf8-append (45 ∷ []) _ (ascii_utf8 (45 ∷ []) refl) (IsUtf8-from_ascii _ (IsAscii-encode_of standard h.digest)))
+
+pub integrity_utf8 : (i : List Hash) → IsUtf8 (integrity_text i)
+integrity_utf8 [] = IsUtf8-nil
+integrity_utf8 (h ∷ []) = hash_utf8 h
+integrity_utf8 (h ∷ g ∷ hs) = IsUtf8-append (hash_text h) _ (hash_utf8 h) (IsUtf8-append (32 ∷ []) _ (ascii_utf8 (32 ∷ []) refl) (integrity_utf8 (g ∷ hs)))

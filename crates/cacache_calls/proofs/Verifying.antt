@@ -1,13 +1,13 @@
 -- A checked export verified what it opened, and a link read its whole target.
 use Rattle.std.proofs.{Common.{◌≡◌, inl, inr, ℕ, List, [], ◌∷◌, ◌++◌, Option, Some, None, Bool, true, false, cond, Result, Ok, Err, refl, ap, sym, length, append_assoc, append-nil}, lemmas.Option.{same_Some}}
 use Rattle.cacache_core.specs.declared.errors.Fault.TheVariants as faults
-use Rattle.cacache_core.specs.{declared.errors.{Error.{Error, TheVariants.{IntegrityError, OutOfMemory}}, IntegrityFault.TheVariants.{Check}}, Integrity.{Meets, actual}, Meeting.{meets}}
+use Rattle.cacache_core.specs.{declared.errors.{Error.{Error, TheVariants.{IntegrityError, OutOfMemory}}, IntegrityFault.TheVariants.{Check}}, Integrity.{Meets, actual}, Matching.{meets}}
 use Rattle.cacache_core.proofs.Meeting.{meets_finds}
 use Rattle.cacache_store.specs.{declared.store.plain.PlainFile.{PlainFile}, Plain.{PlainStep, PlainAnswer}}
 use Rattle.cacache_store.specs.declared.store.step.Step.TheVariants as steps
 use Rattle.cacache_store.specs.declared.store.answer.Answer.TheVariants as answers
-use Rattle.cacache_entry.specs.Latest.{Found}
-use Rattle.cacache_calls.specs.{declared.{answers.Refusal.{Refusal}, command.{Source.{Source}, How.{How, TheVariants.{Copy, Reflink, HardLink}}, Export.{Export}, Link.{Link}}, reply.Reply.{Reply, TheVariants.{Read, Copied, Refused}}, carried.{Lookup.{Lookup}, Content.{Content}}, target.Target.{Target}}, Answers.{file_in, got_in, bytes_in, length_in, refusal_in}, StepPaths.{content_path, bucket_path}, State.{State, looking, sizing, opening_file, hashing, over, Site, Hashing, to_verify, to_link}, Common.{ends_with, fails, refuse, go_on}, Exporting.{export_from, export_content, export, verified}, Looking.{found_in, found_for, found_content, after_bucket, no_bucket}, Linking.{link_target, with_size, after_size, commit_for, hashed_path, hashed, after_read}, Storing.{link}, Table.{wants, opening, piece}, Runs.{Moves, Runs}, Replies.{entries_shown, lookup}, Verifying.{Gives, ReadsWhole, CountsAs, VerifiesContent, Verifies, LinksWhole, UnlessRefused}, Promises.{Promises}}
+use Rattle.cacache_entry.specs.Bucket.{Found}
+use Rattle.cacache_calls.specs.{declared.{answers.Refusal.{Refusal}, command.{Source.{Source}, How.{How, TheVariants.{Copy, Reflink, HardLink}}, Export.{Export}, Link.{Link}}, reply.Reply.{Reply, TheVariants.{Read, Copied, Refused}}, carried.{Lookup.{Lookup}, Content.{Content}}, target.Target.{Target}}, Answers.{file_in, got_in, bytes_in, length_in, refusal_in}, Steps.{content_path, bucket_path}, State.{State, looking, sizing, opening_file, hashing, over, Site, Hashing, to_verify, to_link}, Common.{ends_with, fails, refuse, go_on}, Reading.{export_from, export_content, export, verified, found_in, found_for, found_content, after_bucket, no_bucket}, Linking.{link_target, with_size, after_size, commit_for, hashed_path, hashed, after_read}, Storing.{link}, Table.{wants, opening, piece}, Runs.{Moves, Runs}, Replies.{entries_shown, lookup}, Verifying.{Gives, ReadsWhole, CountsAs, VerifiesContent, Verifies, LinksWhole, UnlessRefused}, Promises.{Promises}}
 use Rattle.cacache_calls.proofs.{Promises.{runs_keep}, Replies.{over_run}}
 use Rattle.cacache_calls.specs.declared.answers.Refusal.TheVariants as refusals
 use Rattle.cacache_calls.specs.declared.command.Command.TheVariants as commands

@@ -1,11 +1,11 @@
 -- A call stays within its licence.
 use Rattle.std.proofs.Common.{◌≡◌, ℕ, Bool, true, false, cond, List, [], ◌∷◌, Option, None, Some, length, get_or, subst}
-use Rattle.cacache_core.specs.{declared.errors.{Error.TheVariants.{IntegrityError}, IntegrityFault.TheVariants.{Check}}, Integrity.{actual}, Meeting.{meets}}
+use Rattle.cacache_core.specs.{declared.errors.{Error.TheVariants.{IntegrityError}, IntegrityFault.TheVariants.{Check}}, Integrity.{actual}, Matching.{meets}}
 use Rattle.cacache_store.specs.{declared.store.{answer.Name.{Name}, plain.PlainFile.{PlainFile}}, Plain.{PlainStep, PlainAnswer}}
 use Rattle.cacache_store.specs.declared.store.step.Step.TheVariants as steps
-use Rattle.cacache_entry.specs.Latest.{Found}
-use Rattle.cacache_calls.specs.{declared.{command.{Command.{Command}, Export.{Export}, How.{How, TheVariants.{Copy}}}, reply.Reply.{Reply}, carried.{Commit.{Commit}, Aim.{Aim}, Lookup.{Lookup}, Content.{Content}}, visit.Visit.{Visit}}, Common.{ends_with, errand_step}, Exporting.{export_from, export_content, export}, Inserting.{insertion, deletion, unless_refused, refused_cause, bucket_line}, Licence.{Licence, May, allows, as_far, KeepsTo, AllMay}, Linking.{after_read, hashed_path}, Looking.{found_for, found_content}, Runs.{Moves, Runs, Goes}, State.{State, doing, creating, writing, syncing, persisting, linking, confirming, appending, looking, reading, asking, sizing, opening_file, hashing, copying, walking, over, Site, Insertion, Hashing, to_verify, to_link}, StepPaths.{temp_path, bucket_path, content_path}, Storing.{placed}, Table.{piece, wants, after, opening}, Walking.{EachVisit, visit_step}}
-use Rattle.cacache_calls.proofs.{Branches.{cond_leads}, Closed.{AnyAnswer, ClosedCommit, ClosedWalk, Closed, kept_always}, Leading.{inserts, places}, Sound.{some_is}, Visits.{MayMeet}}
+use Rattle.cacache_entry.specs.Bucket.{Found}
+use Rattle.cacache_calls.specs.{declared.{command.{Command.{Command}, Export.{Export}, How.{How, TheVariants.{Copy}}}, reply.Reply.{Reply}, carried.{Commit.{Commit}, Aim.{Aim}, Lookup.{Lookup}, Content.{Content}}, visit.Visit.{Visit}}, Common.{ends_with, errand_step}, Reading.{export_from, export_content, export, found_for, found_content}, Inserting.{insertion, deletion, unless_refused, refused_cause, bucket_line}, Licence.{Licence, May, allows, as_far, KeepsTo, AllMay}, Linking.{after_read, hashed_path}, Runs.{Moves, Runs, Goes}, State.{State, doing, creating, writing, syncing, persisting, linking, confirming, appending, looking, reading, asking, sizing, opening_file, hashing, copying, walking, over, Site, Insertion, Hashing, to_verify, to_link}, Steps.{temp_path, bucket_path, content_path}, Storing.{placed}, Table.{piece, wants, after, opening}, Walking.{EachVisit, visit_step}}
+use Rattle.cacache_calls.proofs.{Going.{cond_leads, inserts, places}, Closed.{AnyAnswer, ClosedCommit, ClosedWalk, Closed, kept_always}, Sound.{some_is}, Keys.{MayMeet}}
 use Rattle.cacache_calls.specs.declared.command.Command.TheVariants as commands
 use Rattle.cacache_calls.specs.declared.command.Source.TheVariants as sources
 use Rattle.cacache_calls.specs.declared.carried.Aim.TheVariants as aims

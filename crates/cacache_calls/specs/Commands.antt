@@ -1,7 +1,7 @@
 -- What is fixed for each command: where its call begins, and which kinds of steps that call may make.
 use Rattle.std.specs.Prelude.{ℕ, List, [], Bool, true, false}
 use Rattle.cacache_core.specs.Paths.{index_area, join}
-use Rattle.cacache_calls.specs.{declared.{command.{Command.{Command}, Export.{Export}, Source.{Source}}, carried.Aim.{Aim}, reply.Reply.TheVariants.{Done}}, State.{State, looking, reading, asking, sizing, over, Site}, Inserting.{insert, insertion, deletion}, Storing.{store}, Exporting.{export}, Linking.{link_target}, Removing.{remove_content}, Walking.{walk}}
+use Rattle.cacache_calls.specs.{declared.{command.{Command.{Command}, Export.{Export}, Source.{Source}}, carried.Aim.{Aim}, reply.Reply.TheVariants.{Done}}, State.{State, looking, reading, asking, sizing, over, Site}, Inserting.{insert, insertion, deletion}, Storing.{store}, Reading.{export}, Linking.{link_target}, Removing.{remove_content}, Walking.{walk}}
 use Rattle.cacache_calls.specs.declared.command.Command.TheVariants as commands
 use Rattle.cacache_calls.specs.declared.command.Source.TheVariants as sources
 use Rattle.cacache_calls.specs.declared.carried.Aim.TheVariants as aims

@@ -1,10 +1,24 @@
--- The next state after an answer, in terms that all calls share. The message of an error is left out.
-use Rattle.std.specs.Prelude.{ℕ, List, [], ◌∷◌, Result, Ok, Err}
-use Rattle.cacache_core.specs.declared.errors.{Fault.{Fault}, Error.{Error, TheVariants.{IoError, OutOfMemory}}}
-use Rattle.cacache_store.specs.declared.store.step.Step.TheVariants as steps
+-- The next state after an answer, in terms that all calls share, and options in which nothing is set.
+use Rattle.std.specs.Prelude.{None, false, ℕ, List, [], ◌∷◌, Result, Ok, Err}
+use Rattle.serde_json.specs.Data.{null}
+use Rattle.cacache_core.specs.declared.{integrity.algorithm.Algorithm.{Algorithm}, errors.{Fault.{Fault}, Error.{Error, TheVariants.{IoError, OutOfMemory}}}}
+use Rattle.cacache_calls.specs.{declared.{command.Options.{Options}, answers.Refusal.{Refusal}, reply.Reply.TheVariants.{Refused}}, State.{State, doing, over, Errand, make_folder, remove, reflink, hard_link, sync_file, sync_dir}}
 use Rattle.cacache_store.specs.Plain.{PlainStep}
-use Rattle.cacache_calls.specs.{declared.{answers.Refusal.{Refusal}, reply.Reply.TheVariants.{Refused}}, State.{State, doing, over, Errand, make_folder, remove, reflink, hard_link, sync_file, sync_dir}}
+use Rattle.cacache_store.specs.declared.store.step.Step.TheVariants as steps
 use Rattle.cacache_calls.specs.declared.answers.Refusal.TheVariants as refusals
+
+-- only the algorithm is set
+abbrev pub blank : Algorithm → Options
+blank a = record {
+  algorithm = a;
+  size = None;
+  integrity = None;
+  metadata = null;
+  raw_metadata = None;
+  durable = false;
+}
+
+-- ---- the next state after an answer, in terms that all calls share
 
 -- the call is over with this error
 abbrev pub ends_with : Error → State

@@ -4,7 +4,7 @@ use Rattle.std.specs.Prelude.{◌≡◌, ◌⊎◌, ◌≤◌, ◌<◌, ◌^◌,
 use Rattle.cacache_store.specs.declared.store.answer.Answer.TheVariants as answers
 use Rattle.cacache_store.specs.declared.store.step.Step.TheVariants as steps
 use Rattle.cacache_store.specs.Plain.{PlainStep, PlainAnswer}
-use Rattle.cacache_calls.specs.{declared.{answers.Refusal.{Refusal}, command.{Put.{Put}, Link.{Link}, Insert.{Insert}, Delete.{Delete}}, reply.Reply.{Reply, TheVariants.{Refused}}, carried.Commit.{Commit}, target.Target.{Target}}, Answers.{done_in, there_in}, StepPaths.{content_path, bucket_path}, State.{Site, Insertion, Errand}, Common.{errand_step}, Inserting.{bucket_line, refused_cause, insertion, deletion}, Storing.{insertion_of, put_commit}, Linking.{commit_for, link_target}, Table.{opening}, Runs.{Moves, Runs}}
+use Rattle.cacache_calls.specs.{declared.{answers.Refusal.{Refusal}, command.{Put.{Put}, Link.{Link}, Insert.{Insert}, Delete.{Delete}}, reply.Reply.{Reply, TheVariants.{Refused}}, carried.Commit.{Commit}, target.Target.{Target}}, Answers.{done_in, there_in}, Steps.{content_path, bucket_path}, State.{Site, Insertion, Errand}, Common.{errand_step}, Inserting.{bucket_line, refused_cause, insertion, deletion}, Storing.{insertion_of, put_commit}, Linking.{commit_for, link_target}, Table.{opening}, Runs.{Moves, Runs}}
 use Rattle.cacache_calls.specs.declared.command.Command.TheVariants as commands
 
 -- ---- what steps do

@@ -4,7 +4,7 @@ use Rattle.serde_json.specs.Data.{null}
 use Rattle.cacache_core.specs.declared.errors.Fault.TheVariants as faults
 use Rattle.cacache_core.specs.{declared.{errors.{SerdeCause.{SerdeCause}, Error.TheVariants.{SerdeError}}, integrity.{digest.Hash.{Hash}, algorithm.Algorithm.TheVariants.{Sha1}}}, Integrity.{hash_of}, Texts.{integrity_text}}
 use Rattle.cacache_entry.specs.{Entry.{Entry, closed_line}, FittingEntries.{cause_of}}
-use Rattle.cacache_calls.specs.{declared.{command.{Options.{Options}, Insert.{Insert}, Delete.{Delete}}, reply.Reply.TheVariants.{Stored, Done}}, StepPaths.{bucket_path, bucket_folder, bucket_folders}, State.{State, doing, appending, over, Insertion, make_folder, sync_file}, Common.{ends_with, fails, sync_up}}
+use Rattle.cacache_calls.specs.{declared.{command.{Options.{Options}, Insert.{Insert}, Delete.{Delete}}, reply.Reply.TheVariants.{Stored, Done}}, Steps.{bucket_path, bucket_folder, bucket_folders}, State.{State, doing, appending, over, Insertion, make_folder, sync_file}, Common.{ends_with, fails, sync_up}}
 
 -- the line that the call appends; a durable one is closed
 unfoldable pub bucket_line : Insertion → List ℕ

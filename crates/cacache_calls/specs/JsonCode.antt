@@ -1,8 +1,9 @@
--- How the logic stores JSON data: as a tree of numbers from which the data can be recovered.
-use Rattle.std.specs.{Prelude.{◌≡◌, ◌⊎◌, ℕ, ℤ, List, refl}, Float.{Float}, Coded.{Coded, code_by, coded⊎, coded_ℕ, coded_ℤ, coded_bool, coded_list}}
+-- How the logic stores JSON data, as a tree of numbers from which it can be recovered, and what holds of each JSON value.
+use Rattle.std.specs.{Prelude.{◌≡◌, ◌⊎◌, ℕ, ℤ, List, refl, ◌<◌, ◌^◌, pos, negsuc, IsUtf8}, Float.{Float}, Coded.{Coded, code_by, coded⊎, coded_ℕ, coded_ℤ, coded_bool, coded_list}}
 use Rattle.std.proofs.Common.{inl, inr, ap, sym, subst}
-use base.Stored.{coded_float, Gv, gnil, gnum, gcons}
 use Rattle.serde_json.specs.Data.{Num, unsigned, negative, float, Data, null, boolean, number, string, array, object, Items, no_items, item, Members, no_members, member}
+use Rattle.cacache_entry.specs.FittingEntries.{IsJson}
+use base.Stored.{coded_float, Gv, gnil, gnum, gcons}
 
 -- ---- numbers
 
@@ -96,3 +97,22 @@ mutual
 -- the code of JSON data
 abbrev pub data_code : Coded Data
 data_code = record { code = data_tree; inj = same_data }
+
+-- ---- what holds of each JSON value: of its numbers, items and members
+
+-- a number that isn't negative has 64 bits; one that is negative is below zero and has 64 bits
+abbrev pub IsRanged : Num → Type 0
+IsRanged (unsigned n) = n < 2 ^ 64
+IsRanged (negative (pos n)) = ⊥
+IsRanged (negative (negsuc n)) = n < 2 ^ 63
+IsRanged (float x) = Unit {0}
+
+-- each item is JSON
+abbrev pub AllJson : Items → Type 0
+AllJson no_items = Unit {0}
+AllJson (item d ds) = IsJson d × AllJson ds
+
+-- each name is UTF-8, and each member JSON
+abbrev pub NamedJson : Members → Type 0
+NamedJson no_members = Unit {0}
+NamedJson (member k d ms) = IsUtf8 k × IsJson d × NamedJson ms

@@ -3,7 +3,6 @@ use Rattle.std.specs.Prelude.{[], ◌∷◌, Bool, true, false, if◌then◌else
 use Rattle.cacache_store.specs.declared.store.step.Step.TheVariants as steps
 use Rattle.cacache_store.specs.Plain.{PlainStep}
 use Rattle.cacache_calls.specs.{declared.{command.Command.{Command}, reply.Reply.{Reply}}, Runs.{Moves, Runs}, State.{Site}}
-use Rattle.cacache_calls.specs.declared.command.Command.TheVariants as commands
 pub use Rattle.cacache_calls.specs.Commands.{Licence, looking_up, licence, opening}
 
 -- ---- permissions

@@ -2,7 +2,7 @@
 use Rattle.std.specs.Prelude.{◌≡◌, ℕ, ◌==◌, List, [], ◌∷◌, ◌++◌, Option, Some, false, if◌then◌else◌, length}
 use Rattle.cacache_core.specs.{declared.integrity.{algorithm.Algorithm.{Algorithm}, digest.Hash.{Hash}}, Integrity.{integrity_under}, Paths.{join}}
 use Rattle.cacache_store.specs.declared.store.plain.PlainFile.{PlainFile}
-use Rattle.cacache_calls.specs.{declared.{command.{Link.{Link}, Options.{Options}}, carried.Commit.{Commit}, target.Target.{Target}}, StepPaths.{content_path}, State.{State, opening_file, hashing, Site, Hashing, to_verify, to_link}, Storing.{link}, Exporting.{verified}}
+use Rattle.cacache_calls.specs.{declared.{command.{Link.{Link}, Options.{Options}}, carried.Commit.{Commit}, target.Target.{Target}}, Steps.{content_path}, State.{State, opening_file, hashing, Site, Hashing, to_verify, to_link}, Storing.{link}, Reading.{verified}}
 
 -- a target that doesn't begin with `/` is resolved against the base folder
 abbrev pub based : List ℕ → List ℕ → List ℕ

@@ -1,10 +1,14 @@
--- What holds of every reply of a call, whatever its store answered. Each call may also be refused.
-use Rattle.std.specs.Prelude.{◌≡◌, ℕ, List, [], ◌++◌, Option, None, Some, Bool, true, false, length}
-use Rattle.cacache_core.specs.{declared.integrity.digest.Hash.{Hash}, Integrity.{Meets}}
-use Rattle.cacache_calls.specs.{declared.{command.{Command.{Command}, How.{How, TheVariants.{Copy, Reflink, HardLink}}}, reply.Reply.{Reply, TheVariants.{Stored, Read, LookedUp, Exists, Copied, Listed, Done, Refused}}, carried.{Commit.{Commit}, Aim.{Aim}}, target.Target.{Target}}, State.{State, doing, creating, writing, syncing, persisting, linking, confirming, appending, looking, reading, asking, sizing, opening_file, hashing, copying, walking, over, Site, Hashing, to_verify, to_link}, Inserting.{given_or, no_integrity}, Storing.{matches, put_commit}, Linking.{commit_for, with_size, link_target}, Table.{opening}, Runs.{Moves, Runs}}
+-- What holds of every reply of a call, whatever its store answered. Each call may also be refused; its `IoError` has a cause.
+use Rattle.std.specs.Prelude.{◌≡◌, ℕ, List, [], ◌++◌, Option, None, Some, Bool, true, false, length, ◌⊎◌, ◌<◌, ◌∷◌}
+use Rattle.cacache_core.specs.{declared.{integrity.digest.Hash.{Hash}, errors.{Fault.{Fault}, Error.TheVariants.{IoError}}}, Integrity.{Meets}}
+use Rattle.cacache_calls.specs.{declared.{command.{Command.{Command}, How.{How, TheVariants.{Copy, Reflink, HardLink}}}, reply.Reply.{Reply, TheVariants.{Stored, Read, LookedUp, Exists, Copied, Listed, Done, Refused}}, carried.{Commit.{Commit}, Aim.{Aim}}, target.Target.{Target}}, State.{State, doing, creating, writing, syncing, persisting, linking, confirming, appending, looking, reading, asking, sizing, opening_file, hashing, copying, walking, over, Site, Hashing, to_verify, to_link}, Inserting.{given_or, no_integrity}, Storing.{matches}, Linking.{commit_for, with_size}, Table.{opening}, Runs.{Moves, Runs}, Licence.{licence}}
+use Rattle.cacache_store.specs.Plain.{PlainStep, PlainAnswer}
 use Rattle.cacache_calls.specs.declared.command.Command.TheVariants as commands
 use Rattle.cacache_calls.specs.declared.command.Source.TheVariants as sources
 use Rattle.cacache_calls.specs.declared.carried.Aim.TheVariants as aims
+use Rattle.cacache_core.specs.declared.errors.Fault.TheVariants as faults
+use Rattle.cacache_store.specs.declared.store.answer.Answer.TheVariants as answers
+use Rattle.cacache_store.specs.declared.store.step.Step.TheVariants as steps
 
 -- ---- of a reply: its kind
 
@@ -170,3 +174,42 @@ abbrev pub CallsAnswer : Type 0
 CallsAnswer =
     (site : Site) (command : Command) (moves : Moves) (r : Reply)
     → Runs (opening site command) moves r → Answers site command r
+
+-- ---- a call's `IoError` has a cause
+
+-- the answer to the step reports this fault
+abbrev pub Faults : PlainStep → PlainAnswer → Fault → Type 0
+Faults a (answers.Failed f) fault = fault ≡ f
+Faults (steps.Append path line) (answers.Took n) fault =
+    (fault ≡ faults.ShortAppend) × (n < length line)
+Faults (steps.Write file bytes) (answers.Wrote g n) fault = (fault ≡ faults.WriteZero) × (n ≡ 0)
+Faults a t fault = ⊥
+
+-- one of the moves reports it
+abbrev pub Faulted : Moves → Fault → Type 0
+Faulted [] fault = ⊥
+Faulted (m ∷ moves) fault = Faults m.0 m.1 fault ⊎ Faulted moves fault
+
+-- an `IoError` has a fault of the call's own, or a fault of one of its steps
+abbrev pub HasCause : (Fault → Type 0) → Moves → Reply → Type 0
+HasCause own moves (Refused (IoError fault message)) = own fault ⊎ Faulted moves fault
+HasCause own moves r = Unit {0}
+
+-- a walk's own faults
+abbrev pub OfWalk : Fault → Type 0
+OfWalk fault = (fault ≡ faults.TooDeep) ⊎ (fault ≡ faults.NotADirectory)
+
+-- the faults of a call that lists folders; any other call has none
+abbrev pub OfListing : Bool → Fault → Type 0
+OfListing true fault = OfWalk fault
+OfListing false fault = ⊥
+
+-- the faults that a command may add to those of its steps
+abbrev pub own_of : Command → Fault → Type 0
+own_of command fault = OfListing (licence command).lists fault
+
+-- each `IoError` that a call returns has a cause
+abbrev pub IoErrorsHaveCauses : Type 0
+IoErrorsHaveCauses =
+    (site : Site) (command : Command) (moves : Moves) (r : Reply)
+    → Runs (opening site command) moves r → HasCause (own_of command) moves r

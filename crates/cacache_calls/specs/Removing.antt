@@ -1,8 +1,8 @@
 -- Removals of one content or of one key.
 use Rattle.std.specs.Prelude.{ℕ, List, Option, None, Some}
 use Rattle.cacache_core.specs.declared.integrity.digest.Hash.{Hash}
-use Rattle.cacache_entry.specs.Latest.{Found}
-use Rattle.cacache_calls.specs.{declared.reply.Reply.TheVariants.{Done}, StepPaths.{content_path, bucket_path}, State.{State, doing, over, remove}}
+use Rattle.cacache_entry.specs.Bucket.{Found}
+use Rattle.cacache_calls.specs.{declared.reply.Reply.TheVariants.{Done}, Steps.{content_path, bucket_path}, State.{State, doing, over, remove}}
 
 -- the call removes the content of an integrity, and goes on
 abbrev pub remove_content : List ℕ → List Hash → State → State

@@ -2,11 +2,11 @@
 use Rattle.std.specs.Prelude.{◌≡◌, ℕ, zero, suc, List, [], ◌∷◌, Option, None, Some, Ok, true, false, codes, length}
 use Rattle.serde_json.specs.Data.{null}
 use Rattle.cacache_core.specs.declared.errors.Fault.TheVariants as faults
-use Rattle.cacache_core.specs.{declared.{errors.Error.TheVariants.{IoError}, integrity.{algorithm.Algorithm.TheVariants.{Sha256}, digest.Hash.{Hash}}}, Integrity.{integrity_under}, Paths.{content_area, index_area, temp_area}, Meeting.{meets}}
+use Rattle.cacache_core.specs.{declared.{errors.Error.TheVariants.{IoError}, integrity.{algorithm.Algorithm.TheVariants.{Sha256}, digest.Hash.{Hash}}}, Integrity.{integrity_under}, Paths.{content_area, index_area, temp_area}, Matching.{meets}}
 use Rattle.cacache_store.specs.{declared.store.{plain.{PlainTemp.{PlainTemp}, PlainFile.{PlainFile}}, answer.{Kind.{Kind, TheVariants.{File, Folder}}, Name.{Name}}}, Plain.{PlainStep, PlainAnswer}}
 use Rattle.cacache_store.specs.declared.store.answer.Answer.TheVariants as answers
-use Rattle.cacache_entry.specs.Latest.{Found}
-use Rattle.cacache_calls.specs.{declared.{command.{Options.{Options}, Put.{Put}, Link.{Link}, Export.{Export}, How.TheVariants.{Copy}, Command.{Command}}, reply.Reply.{Reply, TheVariants.{Stored, Read, Exists, Copied, Listed, Done, Refused}}}, State.{State, over, Site, Insertion}, Inserting.{bucket_line, refused_cause}, Storing.{insertion_of, put_commit}, Linking.{commit_for, with_size, link_target}, Looking.{found_in}, Walking.{items_in, failed}, Table.{wants, after, opening}}
+use Rattle.cacache_entry.specs.Bucket.{Found}
+use Rattle.cacache_calls.specs.{declared.{command.{Options.{Options}, Put.{Put}, Link.{Link}, Export.{Export}, How.TheVariants.{Copy}, Command.{Command}}, reply.Reply.{Reply, TheVariants.{Stored, Read, Exists, Copied, Listed, Done, Refused}}}, State.{State, over, Site, Insertion}, Inserting.{bucket_line, refused_cause}, Storing.{insertion_of, put_commit}, Linking.{commit_for, with_size, link_target}, Reading.{found_in}, Walking.{items_in, failed}, Table.{wants, after, opening}}
 use Rattle.cacache_calls.specs.declared.command.Command.TheVariants as commands
 use Rattle.cacache_calls.specs.declared.command.Source.TheVariants as sources
 

@@ -1,10 +1,10 @@
--- Which states a call at a site can reach, and which steps it may make there.
-use Rattle.std.specs.Prelude.{All, ◌≡◌, ◌⊎◌, ◌<◌, ◌+◌, ◌^◌, ℕ, List, None, Some, Bool, true, length}
-use Rattle.cacache_core.specs.{declared.integrity.{algorithm.Algorithm.{Algorithm}, digest.Hash.{Hash}}, Integrity.{integrity_under}, Paths.{joined}, PathNames.{Names, IsProperName}}
-use Rattle.cacache_store.specs.{declared.store.plain.PlainTemp.{PlainTemp}, Plain.{PlainStep, PlainAnswer}, Fits.{Fits}}
+-- Which states a call at a site can reach, which steps it may make there, and which entries it may add.
+use Rattle.std.specs.Prelude.{All, ◌≡◌, ◌⊎◌, ◌<◌, ◌+◌, ◌^◌, ℕ, List, None, Some, Bool, true, length, Option}
+use Rattle.cacache_core.specs.{declared.integrity.{algorithm.Algorithm.{Algorithm}, digest.Hash.{Hash}}, Integrity.{integrity_under}, Paths.{joined, Names, IsProperName}}
+use Rattle.cacache_store.specs.{declared.store.plain.PlainTemp.{PlainTemp}, Plain.{PlainStep, PlainAnswer, Fits}}
+use Rattle.cacache_entry.specs.{Entry.{Entry, closed_line}, FittingEntries.{IsEntry, cause_of, IsUtf8IfAny}}
+use Rattle.cacache_calls.specs.{declared.{command.{Command.{Command}, Options.{Options}}, carried.{Commit.{Commit}, Aim.{Aim}}, target.Target.{Target}, visit.{Visit.{Visit, TheVariants.{Enter, ReadBucket, RemoveFile, RemoveFolder}}, Task.{Task}}}, Steps.{temp_path, temp_folder, content_path, content_folder, bucket_path, bucket_folder}, State.{State, doing, creating, writing, syncing, persisting, linking, confirming, appending, looking, reading, asking, sizing, opening_file, hashing, copying, walking, over, Site, Insertion, Hashing, to_verify, to_link}, Common.{errand_step}, Inserting.{insertion, deletion, refused_cause, entry_of}, Storing.{insertion_of, put_commit}, Linking.{commit_for, link_target}, Table.{wants, after, opening}, Walking.{EachVisit}}
 use Rattle.cacache_store.specs.declared.store.step.Step.TheVariants as steps
-use Rattle.cacache_entry.specs.{Entry.{Entry, closed_line}, FittingEntries.{IsEntry, cause_of}}
-use Rattle.cacache_calls.specs.{declared.{command.Command.{Command}, carried.{Commit.{Commit}, Aim.{Aim}}, target.Target.{Target}, visit.{Visit.{Visit, TheVariants.{Enter, ReadBucket, RemoveFile, RemoveFolder}}, Task.{Task}}}, StepPaths.{temp_path, temp_folder, content_path, content_folder, bucket_path, bucket_folder}, State.{State, doing, creating, writing, syncing, persisting, linking, confirming, appending, looking, reading, asking, sizing, opening_file, hashing, copying, walking, over, Site, Insertion, Hashing, to_verify, to_link}, Common.{errand_step}, Inserting.{insertion, deletion, refused_cause}, Storing.{insertion_of, put_commit}, Linking.{commit_for, link_target}, Table.{wants, after, opening}, Walking.{EachVisit}}
 use Rattle.cacache_calls.specs.declared.command.Command.TheVariants as commands
 use Rattle.cacache_calls.specs.declared.carried.Aim.TheVariants as aims
 
@@ -171,3 +171,28 @@ StaysSound =
     (s : State) (step : PlainStep) (answer : PlainAnswer)
     → Sound site apart outside s → wants s ≡ Some step → Fits step answer
     → Sound site apart outside (after s answer)
+
+-- ---- which entries a command or a commit may add: well-formed ones, if they can be written
+
+-- an entry that is well-formed if it can be written
+abbrev pub IsFormed : Entry → Type 0
+IsFormed e = cause_of e ≡ None → IsEntry e
+
+-- each entry of this key, time and options, whatever its integrity and its size
+abbrev pub FormsEntries : List ℕ → ℕ → Options → Type 0
+FormsEntries key moment o =
+    (integrity : Option (List ℕ)) (size : ℕ) → IsUtf8IfAny integrity → size < 2 ^ 64
+    → IsFormed (entry_of key integrity size moment o)
+
+-- the entry that a commit adds, if any
+abbrev pub FormsCommit : Commit → Type 0
+FormsCommit c = (key : List ℕ) → c.key ≡ Some key → FormedIfWritten (insertion_of c key)
+
+-- each entry that the command's call may add at this site; for a link, whatever it reads from its target
+abbrev pub FormsCommand : Site → Command → Type 0
+FormsCommand site (commands.Put p) = FormsCommit (put_commit site.cache p)
+FormsCommand site (commands.Link l) =
+    (bytes : List ℕ) → length bytes < 2 ^ 64 → FormsCommit (commit_for (link_target site l) bytes)
+FormsCommand site (commands.Insert i) = FormedIfWritten (insertion site.cache i)
+FormsCommand site (commands.Delete d) = FormedIfWritten (deletion site.cache d)
+FormsCommand site command = Unit {0}

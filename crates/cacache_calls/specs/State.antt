@@ -2,7 +2,7 @@
 use Rattle.std.specs.Prelude.{ℕ, List, Option, Bool, Result}
 use Rattle.cacache_core.specs.declared.errors.{Fault.{Fault}, Error.{Error}}
 use Rattle.cacache_store.specs.declared.store.plain.{PlainFile.{PlainFile}, PlainTemp.{PlainTemp}}
-use Rattle.cacache_entry.specs.{Entry.{Entry}, Latest.{Found}}
+use Rattle.cacache_entry.specs.{Entry.{Entry}, Bucket.{Found}}
 use Rattle.cacache_calls.specs.declared.{command.Export.{Export}, reply.Reply.{Reply}, carried.{Commit.{Commit}, Lookup.{Lookup}, Content.{Content}}, target.Target.{Target}, visit.{Visit.{Visit}, Task.{Task}}}
 
 -- the folders and the number that a call works with

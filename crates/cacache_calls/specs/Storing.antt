@@ -1,9 +1,9 @@
 -- Commits: bytes, or a link, become a content; a commit with a key then inserts its entry.
 use Rattle.std.specs.Prelude.{ℕ, ◌==◌, List, [], ◌∷◌, Option, None, Some, Bool, is_some, if◌then◌else◌, length, drop}
-use Rattle.cacache_core.specs.{declared.{errors.{Fault.{Fault}, IntegrityFault.TheVariants.{Check}, Error.TheVariants.{SizeMismatch, IntegrityError}}, integrity.digest.Hash.{Hash}}, Integrity.{integrity_under}, Texts.{integrity_text}, Meeting.{matching}}
+use Rattle.cacache_core.specs.{declared.{errors.{Fault.{Fault}, IntegrityFault.TheVariants.{Check}, Error.TheVariants.{SizeMismatch, IntegrityError}}, integrity.digest.Hash.{Hash}}, Integrity.{integrity_under}, Texts.{integrity_text}, Matching.{matching}}
 use Rattle.cacache_core.specs.declared.errors.Fault.TheVariants as faults
 use Rattle.cacache_store.specs.declared.store.plain.PlainTemp.{PlainTemp}
-use Rattle.cacache_calls.specs.{declared.{command.Put.{Put}, reply.Reply.TheVariants.{Stored}, carried.Commit.{Commit}}, StepPaths.{temp_folder, content_path, content_folder, content_folders}, State.{State, doing, creating, writing, syncing, persisting, linking, over, Site, Insertion, make_folder, sync_file}, Common.{ends_with, fails, sync_up}, Inserting.{insert, entry_of, given_or}}
+use Rattle.cacache_calls.specs.{declared.{command.Put.{Put}, reply.Reply.TheVariants.{Stored}, carried.Commit.{Commit}}, Steps.{temp_folder, content_path, content_folder, content_folders}, State.{State, doing, creating, writing, syncing, persisting, linking, over, Site, Insertion, make_folder, sync_file}, Common.{ends_with, fails, sync_up}, Inserting.{insert, entry_of, given_or}}
 
 -- ---- once the content is stored: the integrity, then the size, then the entry
 

@@ -1,12 +1,8 @@
 -- All calls as one table: the next step of each state, the next state after each answer, and the first state of each call.
-use Rattle.std.specs.Prelude.{ℕ, Option, None, Some, true, false, []}
-use Rattle.cacache_core.specs.Paths.{index_area, join}
+use Rattle.std.specs.Prelude.{ℕ, Option, None, Some, []}
 use Rattle.cacache_store.specs.declared.store.step.Step.TheVariants as steps
 use Rattle.cacache_store.specs.Plain.{PlainStep, PlainAnswer}
-use Rattle.cacache_calls.specs.{declared.{command.Command.{Command}, reply.Reply.TheVariants.{Copied, Done}}, Answers.{done_in, temp_in, written_in, synced_in, there_in, taken_in, bytes_in, file_in, got_in, length_in}, StepPaths.{temp_path, content_path, bucket_path}, State.{State, doing, creating, writing, syncing, persisting, linking, confirming, appending, looking, reading, asking, sizing, opening_file, hashing, copying, walking, over, Site}, Common.{fails, go_on, errand_step}, Inserting.{insert, insertion, deletion, bucket_line, after_append}, Storing.{secured, write_rest, after_write, after_confirm, store}, Looking.{after_bucket, no_bucket}, ContentReads.{checked, answer_there, answer_absent}, Exporting.{export, copied_count}, Linking.{link_target, after_size, hashed_path, after_read}, Removing.{remove_content}, Walking.{visit_step, after_visit, walk}}
-use Rattle.cacache_calls.specs.declared.command.Command.TheVariants as commands
-use Rattle.cacache_calls.specs.declared.command.Source.TheVariants as sources
-use Rattle.cacache_calls.specs.declared.carried.Aim.TheVariants as aims
+use Rattle.cacache_calls.specs.{declared.reply.Reply.TheVariants.{Copied}, Answers.{done_in, temp_in, written_in, synced_in, there_in, taken_in, bytes_in, file_in, got_in, length_in}, Steps.{temp_path, content_path, bucket_path}, State.{State, doing, creating, writing, syncing, persisting, linking, confirming, appending, looking, reading, asking, sizing, opening_file, hashing, copying, walking, over}, Common.{fails, go_on, errand_step}, Inserting.{bucket_line, after_append}, Storing.{secured, write_rest, after_write, after_confirm}, Reading.{after_bucket, no_bucket, checked, answer_there, answer_absent, copied_count}, Linking.{after_size, hashed_path, after_read}, Walking.{visit_step, after_visit}}
 pub use Rattle.cacache_calls.specs.Commands.{opening}
 
 -- the most bytes that one read requests

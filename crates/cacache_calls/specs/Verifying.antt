@@ -4,9 +4,9 @@ use Rattle.cacache_core.specs.{declared.integrity.digest.Hash.{Hash}, Integrity.
 use Rattle.cacache_store.specs.{declared.store.plain.PlainFile.{PlainFile}, Plain.{PlainAnswer}}
 use Rattle.cacache_store.specs.declared.store.step.Step.TheVariants as steps
 use Rattle.cacache_store.specs.declared.store.answer.Answer.TheVariants as answers
-use Rattle.cacache_entry.specs.Latest.{Found}
+use Rattle.cacache_entry.specs.Bucket.{Found}
 use Rattle.cacache_calls.specs.declared.command.Command.TheVariants as commands
-use Rattle.cacache_calls.specs.{declared.{command.{Source.{Source}, Export.{Export}, Link.{Link}}, reply.Reply.{Reply, TheVariants.{Copied, Refused}}, target.Target.{Target}}, Linking.{link_target, with_size, commit_for}, StepPaths.{content_path}, Promises.{Stores}, Replies.{BeginsWithBucket, bucket_shown, lookup}, Runs.{Moves, Runs}, State.{Site}, Table.{opening}}
+use Rattle.cacache_calls.specs.{declared.{command.{Source.{Source}, Export.{Export}, Link.{Link}}, reply.Reply.{Reply, TheVariants.{Copied, Refused}}, target.Target.{Target}}, Linking.{link_target, with_size, commit_for}, Steps.{content_path}, Promises.{Stores}, Replies.{BeginsWithBucket, bucket_shown, lookup}, Runs.{Moves, Runs}, State.{Site}, Table.{opening}}
 use Rattle.cacache_calls.specs.declared.command.Source.TheVariants as sources
 
 -- the moves begin with reads of the file to its end, which returned these bytes

@@ -5,7 +5,7 @@ use Rattle.cacache_core.specs.declared.errors.Fault.TheVariants as faults
 use Rattle.cacache_store.specs.{declared.store.answer.{Kind.{Kind}, Name.{Name}}, Plain.{PlainStep, PlainAnswer}}
 use Rattle.cacache_store.specs.declared.store.answer.Kind.TheVariants as kinds
 use Rattle.cacache_store.specs.declared.store.step.Step.TheVariants as steps
-use Rattle.cacache_entry.specs.{Entry.{Entry}, Bucket.{entries_of}, Latest.{latest}}
+use Rattle.cacache_entry.specs.{Entry.{Entry}, Bucket.{entries_of, latest}}
 use Rattle.cacache_calls.specs.{declared.{reply.Reply.TheVariants.{Listed, Done}, visit.{Visit.{Visit, TheVariants.{Enter, ReadBucket, RemoveFile, RemoveFolder}}, Task.{Task, TheVariants.{Make, Stumble}}}}, Answers.{done_in, bytes_in, names_in}, State.{State, walking, over, Item, Walk}, Common.{fails, go_on}}
 
 -- the most names that a walk takes, and the most items that it returns

@@ -1,7 +1,7 @@
 //! What an answer to a step of one kind contains, or why the step was refused.
 ghost use Rattle.std.specs.Prelude.{◌≡◌, Result, Ok, Err};
 ghost use Rattle.cacache_store.specs.Plain.{plain_answer};
-ghost use Rattle.cacache_calls.specs.{Answers.{refusal_in, done_in, temp_in, written_in, synced_in, taken_in, bytes_in, there_in, file_in, got_in, length_in, names_in}, Seen.{seen_by, written_as, got_as}};
+ghost use Rattle.cacache_calls.specs.{Answers.{refusal_in, done_in, temp_in, written_in, synced_in, taken_in, bytes_in, there_in, file_in, got_in, length_in, names_in}, Steps.{seen_by, written_as, got_as}};
 
 use cacache_core::bytes::Bytes;
 use cacache_core::errors::Fault;

@@ -1,6 +1,6 @@
 //! One call on a cache as plain data.
 ghost use Rattle.std.specs.Prelude.{◌≡◌, IfOk, Some};
-ghost use Rattle.cacache_calls.specs.Blank.{blank};
+ghost use Rattle.cacache_calls.specs.Common.{blank};
 
 use crate::data::Json;
 use cacache_core::bytes::Bytes;

@@ -2,7 +2,7 @@
 //! types are.
 ghost use Rattle.std.specs.Prelude.{◌<◌, ◌^◌, ℕ, length};
 ghost use Rattle.cacache_calls.specs.declared.command.Command.TheVariants as commands;
-ghost use Rattle.cacache_calls.specs.{Formed.{FormsCommand, FormsCommit, FormsEntries}, Inserting.{given_size}, State.{Site}};
+ghost use Rattle.cacache_calls.specs.{Sound.{FormsCommand, FormsCommit, FormsEntries}, Inserting.{given_size}, State.{Site}};
 
 use crate::carried::Commit;
 use crate::command::{Command, Delete, Insert, Link, Options, Put};

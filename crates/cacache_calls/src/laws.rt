@@ -1,5 +1,5 @@
 //! The laws of the table.
-ghost use Rattle.cacache_calls.specs.{Causes.{IoErrorsHaveCauses}, Effects.{PutsCommit, LinksCommit, InsertsSend, DeletesSend, ErrandsOnlyChange}, Licence.{CallsKeepTo}, ListReplies.{ListsShown, EachKeyOnce}, Promises.{CallsAnswer, StatesPromise}, Replies.{FindsShown, GetsShown, ReadsShown, ExistsShown, GetsMeet}, Rows.{Rows}, Runs.{WantsUntilOver, EffortFalls, MemoryEnds}, Sound.{BeginsSound, StepsAllowed, StaysSound}, Verifying.{ExportsVerify, LinksReadWhole}};
+ghost use Rattle.cacache_calls.specs.{Promises.{IoErrorsHaveCauses, CallsAnswer, StatesPromise}, Effects.{PutsCommit, LinksCommit, InsertsSend, DeletesSend, ErrandsOnlyChange}, Licence.{CallsKeepTo}, Replies.{ListsShown, EachKeyOnce, FindsShown, GetsShown, ReadsShown, ExistsShown, GetsMeet}, Rows.{Rows}, Runs.{WantsUntilOver, EffortFalls, MemoryEnds}, Sound.{BeginsSound, StepsAllowed, StaysSound}, Verifying.{ExportsVerify, LinksReadWhole}};
 
 /// In each state a call needs a step until it is over, and every call ends. Each fitting answer lowers the bound on the
 /// remaining steps, and out of memory ends the call at once.

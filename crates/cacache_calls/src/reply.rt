@@ -25,7 +25,7 @@ impl Drop for Found {
 }
 
 impl Model for Found {
-    ghost use Rattle.cacache_entry.specs.Latest.{Found as FoundEntry};
+    ghost use Rattle.cacache_entry.specs.Bucket.{Found as FoundEntry};
     ghost use Rattle.cacache_entry.specs.View.{found_view};
     ghost use Rattle.std.specs.Coded.{codes};
     ghost use Rattle.cacache_calls.specs.JsonCode.{data_code};
@@ -87,7 +87,7 @@ pub struct Items {
 impl Model for Items {
     ghost use Rattle.std.specs.Prelude.{List, Result};
     ghost use Rattle.cacache_core.specs.declared.errors.Error.{Error};
-    ghost use Rattle.cacache_entry.specs.Latest.{Found as FoundEntry};
+    ghost use Rattle.cacache_entry.specs.Bucket.{Found as FoundEntry};
     ghost use Rattle.std.specs.Coded.{codes};
     ghost use Rattle.cacache_calls.specs.JsonCode.{data_code};
 

@@ -3,7 +3,7 @@
 ghost use Rattle.std.specs.{Prelude.{◌<◌, ◌^◌, string_cmp, FitsSigned}, Int.{w64}, BTreeMap.{IsOrdered}};
 ghost use Rattle.serde_json.specs.View.{view, number_view, items_view, members_view};
 ghost use Rattle.cacache_entry.specs.FittingEntries.{EachIsByte, IsJson};
-ghost use Rattle.cacache_calls.specs.Known.{IsRanged, AllJson, NamedJson};
+ghost use Rattle.cacache_calls.specs.JsonCode.{IsRanged, AllJson, NamedJson};
 
 use serde_json::{Map, Number, Value};
 

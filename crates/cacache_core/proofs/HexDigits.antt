@@ -1,7 +1,7 @@
 -- The reading of hex digits, derived from the decoding of their bytes.
 use Rattle.std.{proofs.{Common.{inl, inr, ◌≡◌, ◌≤◌, ℕ, List, [], ◌∷◌, length, nat_lt, refl, ap, arith}, lemmas.Bool.{cases_Bool, ltb-true}}, specs.Prelude.{Result, Ok}}
 use Rattle.hex.specs.Hex.{decode_of}
-use Rattle.cacache_core.specs.{declared.{errors.{Error.{Error, TheVariants.{EntryNotFound, SizeMismatch, IoError, SerdeError, IntegrityError, OutOfMemory}}, IntegrityFault.{IntegrityFault}}, integrity.{algorithm.Algorithm.{Algorithm}, digest.Hash.{Hash}}}, Integrity.{hash_of, IsHash}, Joining.{only_hash, read_hex}, Refusals.{IsReadFailure}, Texts.{long_hash}}
+use Rattle.cacache_core.specs.{declared.{errors.{Error.{Error, TheVariants.{EntryNotFound, SizeMismatch, IoError, SerdeError, IntegrityError, OutOfMemory}}, IntegrityFault.{IntegrityFault}}, integrity.{algorithm.Algorithm.{Algorithm}, digest.Hash.{Hash}}}, Integrity.{hash_of, IsHash}, Matching.{only_hash, read_hex}, Errors.{IsReadFailure}, Texts.{long_hash}}
 
 long : (a : Algorithm) (d : List ℕ) → 3 ≤ length d → only_hash (long_hash a d) ≡ Ok (hash_of a d ∷ [])
 long a d enough = elim (cases_Bool (nat_lt (length d) 3)) [

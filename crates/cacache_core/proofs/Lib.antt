@@ -1,16 +1,12 @@
-pub mod Printing
-pub mod Splits
 pub mod PathLemmas
 pub mod ProperNames
 pub mod JoinedNames
 pub mod PathTexts
-pub mod Words
-pub mod ReadLemmas
+pub mod Reading
 pub mod Order
 pub mod Printed
 pub mod Decoded
 pub mod Relation
 pub mod Meeting
-pub mod Joining
 pub mod HexDigits
 pub mod FaultKinds

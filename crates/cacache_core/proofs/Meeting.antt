@@ -1,7 +1,7 @@
 -- The tests on integrities agree with the relations.
 use Rattle.std.proofs.{Common.{◌≡◌, ◌&&◌, List, [], ◌∷◌, Bool, true, false, cond, Some, None, refl, sym, ap, subst, arith, eq-eqb}, lemmas.{Bool.{eqb-true, and_parts, and_from}, List.Folds.{Any-from_list_any, list_any-from_Any}}}
 use Rattle.std.specs.{Prelude.{Contains}, List.{slice_index_or}}
-use Rattle.cacache_core.specs.{declared.integrity.{algorithm.Algorithm.{Algorithm}, digest.Hash.{Hash}}, Digests.{digest}, Integrity.{rank, is_of, hash_of, ShareDigest}, IntegrityLaws.{ListsFindsHashes, MeetsFindsBytes, MatchingFindsShared, OwnIsMet}, Meeting.{lists, meets, share, matching}, Same.{same_hash, same_rank, same_hash-Decides}}
+use Rattle.cacache_core.specs.{declared.integrity.{algorithm.Algorithm.{Algorithm}, digest.Hash.{Hash}}, Integrity.{digest, rank, is_of, hash_of, ShareDigest}, Laws.{ListsFindsHashes, MeetsFindsBytes, MatchingFindsShared, OwnIsMet}, Matching.{lists, meets, share, matching}, Comparing.{same_hash, same_rank, same_hash-Decides}}
 
 -- ---- a hash is listed
 

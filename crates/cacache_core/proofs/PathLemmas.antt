@@ -4,7 +4,7 @@ use Rattle.std.specs.Int.{w32, to_be_bytes}
 use Rattle.base64.specs.GeneralPurpose.{IsBytes}
 use Rattle.sha1.specs.Sha1.{sha1, digest_bytes, hash_after, padded_message}
 use Rattle.cacache_core.proofs.Decoded.{bytes_append}
-use Rattle.cacache_core.specs.{PathLaws.{KeysHaveDigests, NoneBegins, KindsAreApart}, Paths.{content_area, index_area, temp_area, content_names, bucket_names_of, temp_names, Begins, AreApart}}
+use Rattle.cacache_core.specs.{Laws.{KeysHaveDigests, NoneBegins, KindsAreApart}, Paths.{content_area, index_area, temp_area, content_names, bucket_names_of, temp_names, Begins, AreApart}}
 use Rattle.hex.{specs.Hex.{encode_with, encode_lower, lower_digits, decode_of}, proofs.HexLemmas.{decode_of-encode_lower}}
 
 -- the digits of the first byte

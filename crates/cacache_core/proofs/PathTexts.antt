@@ -1,9 +1,9 @@
 -- Paths as texts: below one cache, equal paths have equal names.
 use Rattle.std.proofs.{Common.{◌≡◌, ◌≢◌, ℕ, ◌<◌, ◌≤◌, ◌+◌, ◌-◌, ◌^◌, ◌==◌, Bool, true, false, cond, List, ◌∷◌, ◌++◌, length, get_or, slice_index, take, drop, codes, refl, sym, ap, ap₂, ◌∙◌, subst, arith, append_assoc, append-nil, length-append}, lemmas.{Bool.{ne_eqb}, List.{append_cancel_left, get_or-append-add, Elements.{All-head, All-tail}, Folds.{list_any_at}}, Nat.{from_be_bytes-to_be_bytes_8}}}
 use Rattle.std.specs.{Prelude.{All, []}, Int.{w64, to_be_bytes, from_be_bytes}}
-use Rattle.hex.{specs.Hex.{encode_lower, lower_digits}, proofs.HexLemmas.{length-encode_with}}
-use Rattle.cacache_core.proofs.{PathLemmas.{same_bytes}, ProperNames.{proper_content_folder, proper_content, proper_bucket_folder, proper_bucket, proper_temp_folder, proper_temp, be_bytes}}
-use Rattle.cacache_core.specs.{declared.integrity.{algorithm.Algorithm.{Algorithm, TheVariants.{Sha1, Sha256, Sha384, Sha512}}, digest.Hash.{Hash}}, Integrity.{IsHash, hash_of}, PathLaws.{IsKeyDigest, PathsDiffer, JoinedTextsSpell}, PathNames.{ends_name, IsProperName}, Paths.{join, joined, slashed, cut_digits, content_area, index_area, temp_area, content_names, bucket_names_of, temp_names}, Texts.{name_of}}
+use Rattle.hex.specs.Hex.{encode_lower}
+use Rattle.cacache_core.proofs.{PathLemmas.{same_bytes}, ProperNames.{proper_content_folder, proper_content, proper_bucket_folder, proper_bucket, proper_temp_folder, proper_temp, be_bytes, long_digits}}
+use Rattle.cacache_core.specs.{declared.integrity.{algorithm.Algorithm.{Algorithm, TheVariants.{Sha1, Sha256, Sha384, Sha512}}, digest.Hash.{Hash}}, Integrity.{IsHash, hash_of}, Laws.{IsKeyDigest, PathsDiffer, JoinedTextsSpell}, Paths.{ends_name, IsProperName, join, joined, slashed, cut_digits, content_area, index_area, temp_area, content_names, bucket_names_of, temp_names}, Texts.{name_of}}
 
 -- ---- names, each after a slash
 
@@ -72,9 +72,6 @@ same_below p n ns ms is all every e =
     append_cancel_left (lead p ++ n) (slashed ns) (slashed ms) (sym (joined_lead p n ns is all) ∙ e ∙ joined_lead p n ms is every)
 
 -- ---- digits
-
-long_digits : (d : List ℕ) → 3 ≤ length d → 4 < length (encode_lower d)
-long_digits d long = omega (arith, length-encode_with lower_digits d)
 
 -- the digits, read from the text of the names that hold them
 digits_in : List ℕ → List ℕ

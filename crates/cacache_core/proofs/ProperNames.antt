@@ -3,16 +3,12 @@ use Rattle.std.proofs.{Common.{◌≡◌, ◌==◌, ◌||◌, ◌<◌, ◌≤◌
 use Rattle.std.specs.{List.{list_any}, Prelude.{All}, Int.{to_be_bytes, w64}}
 use Rattle.base64.specs.GeneralPurpose.{IsBytes}
 use Rattle.hex.{specs.Hex.{encode_with, encode_lower, lower_digits}, proofs.HexLemmas.{length-encode_with}}
-use Rattle.cacache_core.proofs.Splits.{none_of_fewer}
-use Rattle.cacache_core.specs.{declared.integrity.{algorithm.Algorithm.{Algorithm, TheVariants.{Sha1, Sha256, Sha384, Sha512}}, digest.Hash.{Hash}}, Integrity.{IsHash}, PathLaws.{IsKeyDigest, NamesAreProper}, PathNames.{ends_name, IsProperName}, Paths.{content_area, index_area, temp_area, cut_digits}, Texts.{name_of}}
+use Rattle.cacache_core.proofs.JoinedNames.{none_of_fewer, or_parts}
+use Rattle.cacache_core.specs.{declared.integrity.{algorithm.Algorithm.{Algorithm, TheVariants.{Sha1, Sha256, Sha384, Sha512}}, digest.Hash.{Hash}}, Integrity.{IsHash}, Laws.{IsKeyDigest, NamesAreProper}, Paths.{ends_name, IsProperName, content_area, index_area, temp_area, cut_digits}, Texts.{name_of}}
 
 -- NUL, a dot or a slash
 abbrev is_special : ℕ → Bool
 is_special c = ends_name c || c == 46
-
-or_parts : (a b : Bool) → (a || b) ≡ false → (a ≡ false) × (b ≡ false)
-or_parts true b e = absurd cc
-or_parts false b e = (refl, e)
 
 no_end : (n : List ℕ) → list_any is_special n ≡ false → list_any ends_name n ≡ false
 no_end n clear = none_of_fewer ends_name is_special (λ c h. (or_parts (ends_name c) (c == 46) h).0) n clear
@@ -31,7 +27,7 @@ proper (c ∷ n) some clear =
 
 -- ---- hex digits
 
-not_true : (b : Bool) → (b ≡ true → ⊥) → b ≡ false
+pub not_true : (b : Bool) → (b ≡ true → ⊥) → b ≡ false
 not_true true h = absurd (h refl)
 not_true false h = refl
 
@@ -63,11 +59,11 @@ proper_digits h long clear =
     All-cons IsProperName (take 2 h) (take 2 (drop 2 h) ∷ drop 4 h ∷ []) first
     (All-cons IsProperName (take 2 (drop 2 h)) (drop 4 h ∷ []) second (All-cons IsProperName (drop 4 h) [] last (All-nil IsProperName)))
 
-hex_long : (d : List ℕ) → 3 ≤ length d → 4 < length (encode_lower d)
-hex_long d long = omega (arith, length-encode_with lower_digits d)
+pub long_digits : (d : List ℕ) → 3 ≤ length d → 4 < length (encode_lower d)
+long_digits d long = omega (arith, length-encode_with lower_digits d)
 
 proper_hex : (d : List ℕ) → IsBytes d → 3 ≤ length d → All IsProperName (cut_digits (encode_lower d))
-proper_hex d bytes long = proper_digits (encode_lower d) (hex_long d long) (hex_clear d bytes)
+proper_hex d bytes long = proper_digits (encode_lower d) (long_digits d long) (hex_clear d bytes)
 
 -- ---- contents
 

@@ -3,7 +3,7 @@ use Rattle.std.proofs.{Common.{◌≡◌, ◌≤◌, ◌<◌, ℕ, zero, suc, Bo
 use Rattle.std.specs.{Prelude.{All}, List.{starts_with, slice_split, onto_first}}
 use Rattle.base64.{specs.{declared.decode.DecodeError.{DecodeError}, Engines.{standard}, GeneralPurpose.{decode_of, IsBytes}}, proofs.EngineFacts.{decode_of_strict}}
 use Rattle.cacache_core.specs.{declared.{errors.IntegrityFault.{IntegrityFault, TheVariants.{ShortDigest}}, integrity.{algorithm.Algorithm.{Algorithm, TheVariants.{Sha1, Sha256, Sha384, Sha512}}, digest.Hash.{Hash}}}, Integrity.{IsHash, IsIntegrity, hash_of}, Texts.{name_of, hash_text, is_blank, is_some_text, words, long_hash, decoded_hash, hash_behind, read_word, first_and, read_words, kept_hashes, read_integrity, AreHashes, IsIntegrityText}}
-use Rattle.cacache_core.proofs.{Decoded.{bytes_drop, decoded_is_bytes}, Order.{ordered_is_integrity}, Printed.{read_word-hash_text}, ReadLemmas.{read_some}}
+use Rattle.cacache_core.proofs.{Decoded.{bytes_drop, decoded_is_bytes}, Order.{ordered_is_integrity}, Printed.{read_word-hash_text}, Reading.{read_some}}
 
 -- ---- a text in the relation reads as its integrity
 

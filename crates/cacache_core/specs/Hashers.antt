@@ -1,8 +1,8 @@
--- Hashers for the four algorithms, and the message that each was fed.
-use Rattle.std.specs.Prelude.{ℕ, List}
+-- Hashers for the four algorithms, and what each of them, a builder and a checker were fed.
+use Rattle.std.specs.Prelude.{ℕ, List, ◌≡◌, Some}
 use Rattle.sha1.specs.Sha1.{Holds as HoldsSha1}
 use Rattle.sha2.specs.Hashers.{Holds256, Holds384, Holds512}
-use Rattle.cacache_core.specs.declared.integrity.{algorithm.Algorithm.{Algorithm}, hasher.{Hasher.{Hasher, TheVariants.{Sha1, Sha256, Sha384, Sha512}}, Finished.{Finished}}}
+use Rattle.cacache_core.specs.{declared.integrity.{algorithm.Algorithm.{Algorithm}, hasher.{Hasher.{Hasher, TheVariants.{Sha1, Sha256, Sha384, Sha512}}, Finished.{Finished}}, digest.Hash.{Hash}, builder.IntegrityOpts.{IntegrityOpts}, checker.IntegrityChecker.{IntegrityChecker}}, Integrity.{strongest}}
 use Rattle.cacache_core.specs.declared.integrity.algorithm.Algorithm.TheVariants as algorithm
 use Rattle.cacache_core.specs.declared.integrity.hasher.Finished.TheVariants as finished
 
@@ -26,3 +26,17 @@ finished_bytes (finished.Sha1 b) = b
 finished_bytes (finished.Sha256 b) = b
 finished_bytes (finished.Sha384 b) = b
 finished_bytes (finished.Sha512 b) = b
+
+-- ---- what a builder and a checker were fed
+
+-- the algorithm that was set last
+abbrev pub last_algorithm : IntegrityOpts → Algorithm
+last_algorithm o = o.chosen
+
+-- the builder was fed the bytes m, in pieces of any size
+abbrev pub WasFed : IntegrityOpts → List ℕ → Type 0
+WasFed o m = Holds512 o.sha512 m × Holds384 o.sha384 m × Holds256 o.sha256 m × HoldsSha1 o.sha1 m
+
+-- the checker for the integrity i was fed the bytes m, in pieces of any size
+abbrev pub Compares : IntegrityChecker → List Hash → List ℕ → Type 0
+Compares c i m = (c.wanted ≡ i) × (strongest i ≡ Some (algorithm_of c.hasher)) × Holds c.hasher m

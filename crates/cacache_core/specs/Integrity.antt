@@ -1,8 +1,23 @@
--- What an integrity is, and which bytes meet it.
-use Rattle.std.specs.Prelude.{◌≡◌, ◌<◌, ◌≤◌, ◌++◌, ◌==◌, ℕ, List, [], ◌∷◌, Bool, Option, None, Some, length, filter, All, Contains}
-use Rattle.base64.specs.GeneralPurpose.{IsBytes}
+-- What an algorithm computes from bytes, what an integrity is, and which bytes meet it.
+use Rattle.std.specs.Prelude.{ℕ, List, ◌≡◌, ◌<◌, ◌≤◌, ◌++◌, ◌==◌, [], ◌∷◌, Bool, Option, None, Some, length, filter, All, Contains}
 use Rattle.hex.specs.Hex.{encode_lower}
-use Rattle.cacache_core.specs.{declared.integrity.{algorithm.Algorithm.{Algorithm, TheVariants.{Sha1, Sha256, Sha384, Sha512}}, digest.Hash.{Hash}}, Digests.{digest}}
+use Rattle.sha1.specs.Sha1.{sha1}
+use Rattle.sha2.specs.{Sha256.{sha256}, Sha512.{sha384, sha512}}
+use Rattle.cacache_core.specs.declared.integrity.{algorithm.Algorithm.{Algorithm, TheVariants.{Sha1, Sha256, Sha384, Sha512}}, digest.Hash.{Hash}}
+use Rattle.base64.specs.GeneralPurpose.{IsBytes}
+
+-- the digest of bytes under an algorithm (FIPS 180-4)
+abbrev pub digest : Algorithm → List ℕ → List ℕ
+digest Sha1 b = sha1 b
+digest Sha256 b = sha256 b
+digest Sha384 b = sha384 b
+digest Sha512 b = sha512 b
+
+-- the lower-case hex digits of the SHA-256 of bytes
+abbrev pub sha256_hex : List ℕ → List ℕ
+sha256_hex b = encode_lower (sha256 b)
+
+-- ---- what an integrity is, and which bytes meet it
 
 -- a hash, made of its two parts
 abbrev pub hash_of : Algorithm → List ℕ → Hash

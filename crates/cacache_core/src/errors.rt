@@ -1,6 +1,6 @@
 //! Why calls fail.
 ghost use Rattle.std.specs.{Prelude.{◌≡◌, Some}, declared.io.ErrorKind.{ErrorKind}};
-ghost use Rattle.cacache_core.specs.{Contexts.{fault_of, fault_in, kind_of, kind_in}, FaultTexts.{fault_text}, declared.errors.Error.TheVariants.{OutOfMemory, IntegrityError}};
+ghost use Rattle.cacache_core.specs.{Errors.{fault_of, fault_in, kind_of, kind_in, fault_text}, declared.errors.Error.TheVariants.{OutOfMemory, IntegrityError}};
 
 mod context;
 mod quoting;

@@ -1,6 +1,6 @@
 //! The laws of paths, texts and integrities. Each topic has a function that does nothing. Call it
 //! if a proof needs its laws.
-ghost use Rattle.cacache_core.specs.{IntegrityLaws.{ListsFindsHashes, MeetsFindsBytes, MatchingFindsShared, OwnIsMet}, PathLaws.{KeysHaveDigests, PathsDiffer, NoneBegins, KindsAreApart, NamesAreProper, JoinedTextsName, JoinedTextsSpell}, TextLaws.{PrintedTextsRead, IntegrityTextsRead, ReadTextsAreIntegrities}};
+ghost use Rattle.cacache_core.specs.Laws.{ListsFindsHashes, MeetsFindsBytes, MatchingFindsShared, OwnIsMet, KeysHaveDigests, PathsDiffer, NoneBegins, KindsAreApart, NamesAreProper, JoinedTextsName, JoinedTextsSpell, PrintedTextsRead, IntegrityTextsRead, ReadTextsAreIntegrities};
 
 /// There are three kinds of paths: of contents, of buckets and of temporary files. Two paths of one
 /// kind are equal only if their hashes, digests of keys or numbers are equal. No path is below

@@ -2,7 +2,7 @@
 //! states what holds of all these paths.
 ghost use Rattle.std.specs.Prelude.{◌≡◌, ◌≤◌, ◌<◌, ◌++◌, ◌∷◌, [], ℕ, List, IfOk, OnOk, IfSome, length, drop, slice_index, encode_utf8, string_bytes};
 ghost use Rattle.hex.specs.Hex.{encode_lower, lower_digits};
-ghost use Rattle.cacache_core.specs.{Integrity.{address as address_of}, PathNames.{is_above, is_name}, Paths.{join as join_of, joined, content_names, folder_of_hash, bucket_names_of, bucket_names, temp_names, folder_names, digest_folders, digest_file}};
+ghost use Rattle.cacache_core.specs.{Integrity.{address as address_of}, Paths.{is_above, is_name, join as join_of, joined, content_names, folder_of_hash, bucket_names_of, bucket_names, temp_names, folder_names, digest_folders, digest_file}};
 
 mod leading;
 

@@ -1,5 +1,5 @@
 -- In the order of paths, the paths below a folder come together right after it.
-use Rattle.std.proofs.{Common.{◌≡◌, ℕ, Bool, true, false, List, [], ◌∷◌, refl, sym, ap, ◌∙◌}, lemmas.{Bool.{and_parts, and_right}, Cmp.{nat_list_cmp_total}}}
+use Rattle.std.proofs.{lemmas.{Grind.{common_steps}, Bool.{and_parts, and_right}, Cmp.{nat_list_cmp_total}}, Common.{arith, ◌≡◌, ℕ, Bool, true, false, List, [], ◌∷◌, refl, sym, ap, ◌∙◌}}
 use Rattle.std.specs.{Prelude.{None, map as keys_of}, List.{AllByRecursion, filter_map, Sorted.{IsStrictlySortedBy}}, Bool.{nat_eq}, declared.{cmp.Ordering.{Ordering, TheVariants.{Less, Equal, Greater}}, ops.Bound.TheVariants.{Included, Unbounded}}, Ordering.{nat_cmp, is_le, ordering_reverse}, Cmp.{eq_by_cmp_equiv, Lexicographic.{pointwise, slice_cmp, bytes_decides}}, FinMap.{nat_cmp-IsAntisymmetric, slice_cmp-IsAntisymmetric}, BTreeMap.{Range.{entries_between}, BTreeMap}}
 use Rattle.cacache_disk.{specs.{declared.node.Node.{Node}, Tree.{Tree, Names, names_cmp, is_below, child_of, listing}}, proofs.Maps.{is_eq_true, entries_map}}
 use Rattle.std.specs.FinMap as map
@@ -59,8 +59,7 @@ from_on folder es = entries_between names_cmp (Included folder) Unbounded es
 after_from_at : (b : Bool) (folder q : Names) (e : Names × Node) (es : List (Names × Node)) → is_le (names_cmp folder e.0) ≡ b
     → names_cmp q e.0 ≡ Less → AllByRecursion (λ y. names_cmp q y ≡ Less) (keys_of (λ e. e.0) (from_on folder es))
     → AllByRecursion (λ y. names_cmp q y ≡ Less) (keys_of (λ e. e.0) (from_on folder (e ∷ es)))
-after_from_at true folder q e es is first rest = rw is (first, rest)
-after_from_at false folder q e es is first rest = rw is rest
+after_from_at b folder q e es is first rest = grind (arith, common_steps)
 
 after_from : (folder q : Names) (es : List (Names × Node)) → AllByRecursion (λ y. names_cmp q y ≡ Less) (keys_of (λ e. e.0) es)
     → AllByRecursion (λ y. names_cmp q y ≡ Less) (keys_of (λ e. e.0) (from_on folder es))
@@ -78,14 +77,12 @@ stops folder [] s = tt
 stops folder (e ∷ es) s = stops_at _ folder e es refl s.0 (stops folder es s.1)
 
 not_below : (folder q : Names) (b : Bool) → is_below folder q ≡ b → is_le (names_cmp folder q) ≡ false → is_below folder q ≡ false
-not_below folder q true is before = let e : false ≡ true = sym before ∙ below-le folder q is in cc
-not_below folder q false is before = is
+not_below folder q b is before = grind (arith, below-le)
 
 children_at : (b : Bool) (folder : Names) (e : Names × Node) (es : List (Names × Node)) → is_le (names_cmp folder e.0) ≡ b
     → filter_map (child_of folder) (from_on folder es) ≡ filter_map (child_of folder) es
     → filter_map (child_of folder) (from_on folder (e ∷ es)) ≡ filter_map (child_of folder) (e ∷ es)
-children_at true folder e es is rest = rw (is, rest) refl
-children_at false folder e es is rest = rw (is, no_child folder e (not_below folder e.0 _ refl is)) rest
+children_at b folder e es is rest = grind (arith, no_child, not_below)
 
 children : (folder : Names) (es : List (Names × Node)) → filter_map (child_of folder) (from_on folder es) ≡ filter_map (child_of folder) es
 children folder [] = refl

@@ -1,9 +1,9 @@
 -- Which change a step makes to a tree, and what a change does at a path.
-use Rattle.std.proofs.Common.{◌≡◌, ◌⊎◌, inl, inr, ◌-◌, ◌==◌, ℕ, Bool, true, false, cond, List, [], ◌∷◌, ◌++◌, Option, None, Some, Ok, Err, take, refl, sym, ap, ◌∙◌}
+use Rattle.std.proofs.{lemmas.Grind.{common_steps}, Common.{arith, ◌≡◌, ◌⊎◌, inl, inr, ◌-◌, ◌==◌, ℕ, Bool, true, false, cond, List, [], ◌∷◌, ◌++◌, Option, None, Some, Ok, take, refl, ap, ◌∙◌}}
 use Rattle.std.specs.Prelude.{Result, ◌||◌}
 use Rattle.cacache_core.specs.declared.errors.Fault.{Fault, TheVariants.{IsADirectory, InvalidInput}}
 use Rattle.cacache_store.specs.{declared.store.step.Step.TheVariants.{MakeDirs, CreateTemp, Persist, Append, ReadAll, Open, Size, Symlink, Copy, Reflink, HardLink, ReadDir, RemoveFile, RemoveDir, SyncFile, SyncDir}, Plain.{PlainStep, PlainAnswer}}
-use Rattle.cacache_disk.specs.{declared.{luck.Luck.{Luck, TheVariants.{Plain, Fail, Take}}, node.Node.{Node, TheVariants.{Folder, File, Link}}}, Tree.{Tree, Names, bytes_of, cut, fronts, is_among, look, put, same_path}, LedTo.{dirs, free, known, kept, replaceable, writable, file_at, linked, folder, removable, emptied}, Apply.{apply, plain, unless, if_missing, make_some, making, taken, is_taking, is_parted, fails, fault_told, left_by}}
+use Rattle.cacache_disk.specs.{declared.{luck.Luck.{Luck}, node.Node.{Node, TheVariants.{Folder, File, Link}}}, Tree.{Tree, Names, bytes_of, cut, fronts, is_among, look, put, same_path}, LedTo.{dirs, free, known, kept, replaceable, writable, file_at, linked, folder, removable, emptied}, Apply.{apply, plain, unless, if_missing, make_some, making, taken, fails, left_by}}
 use Rattle.cacache_disk.proofs.{Maps.{same_path-true}, PutNodes.{look-cut, look-put}}
 
 -- a change of a tree
@@ -64,26 +64,20 @@ StepAt t step q new = (change : TreeChange) × Makes t step change × At t chang
 
 module _ (P : Tree → Type 0) where
   cond_tree : (b : Bool) (x y : Tree) → P x → P y → P (cond b x y)
-  cond_tree true x y h k = h
-  cond_tree false x y h k = k
+  cond_tree b x y h k = grind (arith, common_steps)
 
   fails_tree : (own : Option Fault) (fault : Fault) (t left : Tree) → P t → P left → P (fails own fault t left).1
-  fails_tree None fault t left h k = k
-  fails_tree (Some own) fault t left h k = h
+  fails_tree own fault t left h k = grind (arith, common_steps)
 
   left_tree : (t : Tree) (step : PlainStep) (part : Option ℕ) → P t → ((most : Option ℕ) → P (plain t step most).1) → P (left_by t step part)
-  left_tree t step None h k = h
-  left_tree t step (Some part) h k = cond_tree (is_parted step) _ _ (k (Some part)) h
+  left_tree t step part h k = grind (arith, cond_tree)
 
   pub apply_tree : (t : Tree) (step : PlainStep) (luck : Luck) → P t → ((most : Option ℕ) → P (plain t step most).1) → P (apply t step luck).1
   unfolding apply
-  apply_tree t step Plain h k = k None
-  apply_tree t step (Take most) h k = k (cond (is_taking step) (Some most) None)
-  apply_tree t step (Fail fault part) h k = fails_tree (fault_told (plain t step None).0) fault t (left_by t step part) h (left_tree t step part h k)
+  apply_tree t step luck h k = grind (arith, fails_tree, left_tree)
 
   pub unless_tree : {A : Type 0} (r : Result A Fault) (t : Tree) (go : A → PlainAnswer × Tree) → P t → ((a : A) → r ≡ Ok a → P (go a).1) → P (unless r t go).1
-  unless_tree (Ok a) t go h k = k a refl
-  unless_tree (Err fault) t go h k = h
+  unless_tree r t go h k = grind (arith, common_steps)
 
 -- ---- each step makes a change
 
@@ -135,21 +129,14 @@ abbrev Made : Option Node → Option Node → Bool → Type 0
 Made old new b = (new ≡ old) ⊎ ((old ≡ None) × (new ≡ Some Folder) × (b ≡ true))
 
 made_both : (old mid new : Option Node) (b c : Bool) → Made old mid b → Made mid new c → Made old new (b || c)
-made_both old mid new b c (inl e) (inl f) = inl (f ∙ e)
-made_both old mid new b c (inr h) (inl f) = inr (h.0, f ∙ h.1, rw h.2 refl)
-made_both old mid new true c (inl e) (inr h) = inr (sym e ∙ h.0, h.1, refl)
-made_both old mid new false c (inl e) (inr h) = inr (sym e ∙ h.0, h.1, h.2)
-made_both old mid new b c (inr h) (inr k) = let differ : Some Folder ≡ None = sym h.1 ∙ k.0 in absurd cc
+made_both old mid new b c which is = grind (arith, common_steps)
 
 module _ (t : Tree) (p q : Names) where
   put_made : (b : Bool) → look t p ≡ None → same_path q p ≡ b → Made (look t q) (look (put t p Folder) q) b
-  put_made true none is = inr (ap (look t) (same_path-true q p is) ∙ none, look-put t p Folder q ∙ ap (λ b. cond b (Some Folder) (look t q)) is, refl)
-  put_made false none is = inl (look-put t p Folder q ∙ ap (λ b. cond b (Some Folder) (look t q)) is)
+  put_made b none is = grind (arith, same_path-true, look-put)
 
   one_made : (here : Option Node) (stop : Bool) → look t p ≡ here → Made (look t q) (look (if_missing here (cond stop t (put t p Folder)) t) q) (same_path q p)
-  one_made None true is = inl refl
-  one_made None false is = put_made (same_path q p) is refl
-  one_made (Some node) stop is = inl refl
+  one_made here stop is = grind (arith, put_made)
 
 all_made : (t : Tree) (above rest q : Names) (count : ℕ) → Made (look t q) (look (make_some t above rest count) q) (is_among q (fronts above rest))
 all_made t above [] q count = inl refl
@@ -165,8 +152,7 @@ module _ (t : Tree) (c : TreeChange) (q : Names) where
   put_here old p node false is put left = rw (look-put old p node q ∙ ap (λ b. cond b (Some node) (look old q)) is) left
 
   cut_here : (p : Names) (b : Bool) → same_path q p ≡ b → (q ≡ p → Cuts c q) → At t c q (look (cut t p) q)
-  cut_here p true is cut = at_cut (cut (same_path-true q p is)) (look-cut t p q ∙ ap (λ b. cond b None (look t q)) is)
-  cut_here p false is cut = at_rest (look-cut t p q ∙ ap (λ b. cond b None (look t q)) is)
+  cut_here p b is same = grind (arith, same_path-true, look-cut)
 
 change_at : (t : Tree) (c : TreeChange) (q : Names) → At t c q (look (made_by t c) q)
 change_at t NoChange q = at_rest refl

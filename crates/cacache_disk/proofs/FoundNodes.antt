@@ -1,16 +1,15 @@
 -- What is known of a path at which a step found what it wanted.
-use Rattle.std.{proofs.Common.{◌≡◌, ◌==◌, length, ℕ, Bool, true, false, cond, List, [], Option, None, Some, Ok, Err, refl, ap, subst, ◌∙◌}, specs.Prelude.{Result}}
-use Rattle.cacache_core.specs.{declared.errors.Fault.{Fault, TheVariants.{NotEmpty}}, PathNames.{names_of}}
-use Rattle.cacache_disk.specs.{declared.node.Node.{Node, TheVariants.{Folder, File, Link}}, Tree.{Tree, Names, look, listing}, LedTo.{and_then, or_fault, way_fault, dirs, dirs_fault, place, standing, where_there, where_free, where_no_folder, where_removable, where_folder, where_file, where_empty, free, replaceable, kept, removable, folder, emptied}, Rooted.{is_folder}}
+use Rattle.std.proofs.{lemmas.Grind.{common_steps}, Common.{arith, ◌≡◌, ◌==◌, length, ℕ, Bool, true, false, cond, List, [], Option, None, Some, Ok, Err, ap, subst, ◌∙◌}}
+use Rattle.std.specs.Prelude.{Result}
+use Rattle.cacache_core.specs.{declared.errors.Fault.{Fault, TheVariants.{NotEmpty}}, Paths.{names_of}}
+use Rattle.cacache_disk.specs.{declared.node.Node.{Node, TheVariants.{Folder}}, Tree.{Tree, Names, look, listing, is_folder}, LedTo.{and_then, or_fault, way_fault, dirs, dirs_fault, place, standing, where_there, where_free, where_no_folder, where_removable, where_folder, where_file, where_empty, free, replaceable, kept, removable, folder, emptied}}
 
 pub and_then_ok : {A B : Type 0} (r : Result A Fault) (next : A → Result B Fault) (b : B) → and_then r next ≡ Ok b
     → (a : A) × (r ≡ Ok a) × (next a ≡ Ok b)
-and_then_ok (Ok a) next b e = (a, refl, e)
-and_then_ok (Err f) next b e = absurd cc
+and_then_ok r next b e = grind (arith, common_steps)
 
 pub or_fault_none : (o : Option Fault) (a b : Names) → or_fault o a ≡ Ok b → (o ≡ None) × (a ≡ b)
-or_fault_none None a b e = (refl, cc)
-or_fault_none (Some f) a b e = absurd cc
+or_fault_none o a b e = grind (arith, common_steps)
 
 pub place_ok : (t : Tree) (path : List ℕ) (names : Names) → place t path ≡ Ok names → names_of path ≡ Ok names
 unfolding place
@@ -43,33 +42,26 @@ abbrev pub HasNoFolder : Tree → List ℕ → Names → Type 0
 HasNoFolder t path names = (names_of path ≡ Ok names) × NoFolder (look t names) × (place t path ≡ Ok names)
 
 free_at : (here : Option Node) (old new : Names) → where_free here old ≡ Ok new → NoFolder here × (old ≡ new)
-free_at None old new e = (refl, cc)
-free_at (Some node) old new e = absurd cc
+free_at here old new e = grind (arith, common_steps)
 
 pub no_folder_at : (here : Option Node) (old new : Names) → where_no_folder here old ≡ Ok new → NoFolder here × (old ≡ new)
-no_folder_at (Some Folder) old new e = absurd cc
-no_folder_at here old new e = (refl, cc)
+no_folder_at here old new e = grind (arith, common_steps)
 
 removable_at : (here : Option Node) (old new : Names) → where_removable here old ≡ Ok new → NoFolder here × (old ≡ new)
-removable_at (Some (File bytes)) old new e = (refl, cc)
-removable_at (Some (Link target)) old new e = (refl, cc)
-removable_at here old new e = absurd cc
+removable_at here old new e = grind (arith, common_steps)
 
 file_at : (here : Option Node) (old new : Names) → where_file here old ≡ Ok new → NoFolder here × (old ≡ new)
-file_at (Some (File bytes)) old new e = (refl, cc)
-file_at here old new e = absurd cc
+file_at here old new e = grind (arith, common_steps)
 
 folder_at : (here : Option Node) (old new : Names) → where_folder here old ≡ Ok new → (here ≡ Some Folder) × (old ≡ new)
-folder_at (Some Folder) old new e = (refl, cc)
-folder_at here old new e = absurd cc
+folder_at here old new e = grind (arith, common_steps)
 
 pub free_ok : (t : Tree) (path : List ℕ) (names : Names) → free t path ≡ Ok names → HasNoFolder t path names
 unfolding free
 free_ok = judged where_free NoFolder free_at
 
 missing_at : (here : Option Node) (old new : Names) → where_free here old ≡ Ok new → (here ≡ None) × (old ≡ new)
-missing_at None old new e = (refl, cc)
-missing_at (Some node) old new e = absurd cc
+missing_at here old new e = grind (arith, common_steps)
 
 pub free_none : (t : Tree) (path : List ℕ) (names : Names) → free t path ≡ Ok names → look t names ≡ None
 unfolding free
@@ -91,9 +83,7 @@ unfolding removable
 removable_ok = judged where_removable NoFolder removable_at
 
 empty_at : (old new : Names) (b c : Bool) → cond b (Err NotEmpty) (cond c (Ok old) (Err NotEmpty)) ≡ Ok new → (old ≡ new) × (b ≡ false) × (c ≡ true)
-empty_at old new true c e = absurd cc
-empty_at old new false true e = (cc, refl, refl)
-empty_at old new false false e = absurd cc
+empty_at old new b c e = grind (arith, common_steps)
 
 pub emptied_ok : (t : Tree) (path : List ℕ) (names : Names) → emptied t path ≡ Ok names
     → (names_of path ≡ Ok names) × (look t names ≡ Some Folder) × ((length names == 0) ≡ false) × ((length (listing t names) == 0) ≡ true)
@@ -109,8 +99,7 @@ emptied_ok t path names e =
     )
 
 pub there_at : (here : Option Node) (old new : Names) → where_there here old ≡ Ok new → old ≡ new
-there_at None old new e = absurd cc
-there_at (Some node) old new e = cc
+there_at here old new e = grind (arith, common_steps)
 
 pub standing_ok : (t : Tree) (path : List ℕ) (names : Names) → standing t path ≡ Ok names → names_of path ≡ Ok names
 unfolding standing

@@ -1,17 +1,16 @@
 -- Every step leaves each node in a folder.
-use Rattle.std.proofs.{Common.{◌≡◌, ◌==◌, ◌+◌, ℕ, zero, suc, Bool, true, false, cond, List, ◌∷◌, ◌++◌, Option, None, Some, Ok, length, take, refl, sym, ap, subst, ◌∙◌, arith, eqb-true, length-append, append_assoc, append-nil}, Math.Seq.{take-append_seam}, lemmas.Bool.{eq-eqb}}
-use Rattle.std.specs.{Prelude.{Result, Err, IfOk, OnOk, OnErr, filter_map, slice_index_or, []}, List.{cons_option}, Ordering.{nat_cmp}, Bool.{nat_eq}, Cmp.Lexicographic.{pointwise, slice_cmp, lists_ties, texts_ties}}
+use Rattle.std.proofs.{lemmas.{Grind.{common_steps}, Bool.{eq-eqb}}, Common.{◌≡◌, ◌==◌, ◌+◌, ℕ, zero, suc, Bool, true, false, cond, List, ◌∷◌, ◌++◌, Option, None, Some, Ok, length, take, refl, sym, ap, subst, ◌∙◌, arith, eqb-true, length-append, append_assoc, append-nil}, Math.Seq.{take-append_seam}}
+use Rattle.std.specs.{Prelude.{Result, IfOk, OnOk, OnErr, filter_map, slice_index_or, []}, List.{cons_option}, Ordering.{nat_cmp}, Bool.{nat_eq}, Cmp.Lexicographic.{pointwise, slice_cmp, lists_ties, texts_ties}}
 use Rattle.std.specs.FinMap as map
-use Rattle.cacache_core.specs.{declared.errors.Fault.{Fault}, PathNames.{names_of}}
+use Rattle.cacache_core.specs.{declared.errors.Fault.{Fault}, Paths.{names_of}}
 use Rattle.cacache_store.specs.{declared.store.step.Step.TheVariants.{MakeDirs, CreateTemp, Persist, Append, Symlink, Copy, Reflink, HardLink, RemoveFile, RemoveDir}, Plain.{PlainStep, PlainAnswer}}
-use Rattle.cacache_disk.specs.{declared.{luck.Luck.{Luck}, node.Node.{Node, TheVariants.{Folder, Link}}}, Tree.{Tree, Names, look, put, names_cmp, same_path, listing, child_of, is_child, kind_of}, LedTo.{and_then, or_fault, through, way_fault, place, standing, followed, leads, on_link, where_no_folder, where_there, writable, free, dirs, dirs_fault}, Apply.{apply}, Rooted.{is_folder, Rooted}}
-use Rattle.cacache_disk.proofs.{Changes.{TreeChange, NoChange, PutNode, MoveFile, MakeFolders, CutNode, Makes, by_changes, made_by}, Maps.{same_path-true}, NameLemmas.{names_proper}, FoundNodes.{and_then_ok, or_fault_none, place_ok, no_folder_at, there_at, free_ok, kept_ok, replaceable_ok, removable_ok, emptied_ok}, Roots.{CanStand, put_rooted, cut_rooted, file_cut, persist_rooted, make_rooted, same_self, IsBare}}
+use Rattle.cacache_disk.specs.{declared.{luck.Luck.{Luck}, node.Node.{Node, TheVariants.{Folder}}}, Tree.{Tree, Names, look, put, names_cmp, same_path, listing, child_of, is_child, kind_of, is_folder, Rooted}, LedTo.{and_then, or_fault, through, way_fault, place, standing, followed, leads, on_link, where_no_folder, where_there, writable, free, dirs, dirs_fault}, Apply.{apply}}
+use Rattle.cacache_disk.proofs.{Changes.{TreeChange, NoChange, PutNode, MoveFile, MakeFolders, CutNode, Makes, by_changes, made_by}, Maps.{same_path-true}, PathTexts.{names_proper}, FoundNodes.{and_then_ok, or_fault_none, place_ok, no_folder_at, there_at, free_ok, kept_ok, replaceable_ok, removable_ok, emptied_ok}, Roots.{CanStand, put_rooted, cut_rooted, file_cut, persist_rooted, make_rooted, same_self, IsBare}}
 
 -- ---- the folder of a path
 
 through_none : (here : Option Node) (later : Option Fault) → through here later ≡ None → (here ≡ Some Folder) × (later ≡ None)
-through_none (Some Folder) later e = (refl, e)
-through_none here later e = absurd cc
+through_none here later e = grind (arith, common_steps)
 
 way_folder : (t : Tree) (path more : Names) (name : List ℕ) → look t path ≡ Some Folder → way_fault t path (more ++ name ∷ []) ≡ None
     → look t (path ++ more) ≡ Some Folder
@@ -40,8 +39,7 @@ module _ (t : Tree) (rooted : Rooted t) where
 
   link_folder : (here : Option Node) (names new : Names) (go : List ℕ → Result Names Fault) → CanStand t names
       → ((target : List ℕ) → go target ≡ Ok new → CanStand t new) → on_link here names go ≡ Ok new → CanStand t new
-  link_folder (Some (Link target)) names new go h on e = on target e
-  link_folder here names new go h on e = let same : names ≡ new = cc in subst (CanStand t) same h
+  link_folder here names new go h on e = grind (arith, common_steps)
 
   followed_folder : (n : ℕ) (names new : Names) → CanStand t names → followed n t names ≡ Ok new → CanStand t new
   unfolding followed
@@ -63,7 +61,7 @@ module _ (t : Tree) (rooted : Rooted t) where
 
 -- ---- an empty folder
 
-is_child-snoc : (p : Names) (name : List ℕ) → is_child p (p ++ name ∷ []) ≡ true
+pub is_child-snoc : (p : Names) (name : List ℕ) → is_child p (p ++ name ∷ []) ≡ true
 is_child-snoc p name =
     let l : length (p ++ name ∷ []) ≡ length p + 1 = omega (arith, length-append p (name ∷ [])) in
     let front : take (length p) (p ++ name ∷ []) ≡ p = take-append_seam p (name ∷ []) in
@@ -76,9 +74,7 @@ some_items x xs e = let l : length (x ∷ xs) ≡ 0 = eqb-true (length (x ∷ xs
 find_at : (p q : Names) (e : Names × Node) (es : List (Names × Node)) (b c : Bool) → same_path q e.0 ≡ b → is_child p e.0 ≡ c → is_child p q ≡ true
     → (length (cons_option (cond c (Some (record { name = slice_index_or e.0 (length p) []; kind = kind_of e.1 })) None) (filter_map (child_of p) es)) == 0) ≡ true
     → ((length (filter_map (child_of p) es) == 0) ≡ true → map.find names_cmp q es ≡ None) → cond b (Some e.1) (map.find names_cmp q es) ≡ None
-find_at p q e es b true same child is none more = absurd (some_items (record { name = slice_index_or e.0 (length p) []; kind = kind_of e.1 }) (filter_map (child_of p) es) none)
-find_at p q e es true false same child is none more = let differ : true ≡ false = sym is ∙ ap (is_child p) (same_path-true q e.0 same) ∙ child in absurd cc
-find_at p q e es false false same child is none more = more none
+find_at p q e es b c same child is none more = grind (arith, some_items, same_path-true)
 
 find_none : (p q : Names) (es : List (Names × Node)) → is_child p q ≡ true → (length (filter_map (child_of p) es) == 0) ≡ true
     → map.find names_cmp q es ≡ None
@@ -126,17 +122,14 @@ steps_keep_rooted t step luck rooted = by_changes Rooted t step luck (change_roo
 
 -- a change that is made or not
 pub made_or_not : {X E : Type 0} (t new made : Tree) (r : Result X E) → Rooted t → Rooted made → OnOk r (new ≡ made) → OnErr r (new ≡ t) → Rooted new
-made_or_not t new made (Ok x) rooted whole ok err = subst Rooted (sym ok) whole
-made_or_not t new made (Err e) rooted whole ok err = subst Rooted (sym err) rooted
+made_or_not t new made r rooted whole ok err = grind (arith, common_steps)
 
 -- the tree of a step's outcome
 pub outcome_rooted : (t made : Tree) (step : PlainStep) (luck : Luck) (answer : PlainAnswer) → Rooted t → apply t step luck ≡ (answer, made) → Rooted made
 outcome_rooted t made step luck answer rooted is = subst Rooted (ap (λ (r : PlainAnswer × Tree). r.1) is) (steps_keep_rooted t step luck rooted)
 
 pub on_ok : {X E : Type 0} {A : Type 0} (r : Result X E) → A → OnOk r A
-on_ok (Ok x) a = a
-on_ok (Err e) a = tt
+on_ok r a = grind (arith, common_steps)
 
 pub if_on_ok : {X E F : Type 0} {A : Type 0} (r : Result (Result X E) F) → A → IfOk r (λ s. OnOk s A)
-if_on_ok (Ok s) a = on_ok s a
-if_on_ok (Err e) a = tt
+if_on_ok r a = grind (arith, on_ok)

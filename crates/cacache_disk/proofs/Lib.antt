@@ -1,16 +1,13 @@
 pub mod Below
 pub mod Changes
 pub mod FoundNodes
-pub mod Follow
 pub mod KeptFolders
 pub mod Maps
-pub mod NameLemmas
 pub mod Outcomes
 pub mod PlantedNodes
 pub mod PutNodes
 pub mod Roots
 pub mod Standing
-pub mod NeverMemory
-pub mod PathFolders
 pub mod PathTexts
-pub mod ToldNodes
+mod Logs
+mod ForeignLogs

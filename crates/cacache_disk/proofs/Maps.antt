@@ -1,9 +1,9 @@
--- The nodes as a finite map.
-use Rattle.std.proofs.{Common.{◌≡◌, Bool, true, false, cond, List, [], ◌∷◌, refl, sym, ap, ◌∙◌}, lemmas.Cmp.{nat_list_cmp_total, lists_total}}
-use Rattle.std.specs.{Prelude.{◌&&◌, T, None, Some, IsSome, map as keys_of}, List.{AllByRecursion, Sorted.{IsStrictlySortedBy}}, FinMap.{Entries.{below_all}, IsAntisymmetric, nat_cmp-IsAntisymmetric, slice_cmp-IsAntisymmetric}, declared.cmp.Ordering.{Ordering, TheVariants.{Less, Equal}}, Ordering.{eq_by_cmp, is_eq}, Cmp.{IsTotalOrder, eq_by_cmp_equiv}, BTreeMap.{BTreeMap, is_at}, Map.{lookup}}
+-- The nodes as a finite map, which holds all that is on a disk.
+use Rattle.std.proofs.{lemmas.{Grind.{common_steps}, Cmp.{nat_list_cmp_total, lists_total}}, Common.{arith, ◌≡◌, Bool, true, cond, List, [], ◌∷◌, refl, sym, ap, ◌∙◌}}
+use Rattle.std.specs.{Prelude.{◌&&◌, T, None, Some, IsSome, map as keys_of, map as each}, List.{AllByRecursion, Sorted.{IsStrictlySortedBy}}, FinMap.{Entries.{below_all}, IsAntisymmetric, nat_cmp-IsAntisymmetric, slice_cmp-IsAntisymmetric}, declared.cmp.Ordering.{Ordering, TheVariants.{Less, Equal}}, Ordering.{eq_by_cmp, is_eq}, Cmp.{IsTotalOrder, eq_by_cmp_equiv}, BTreeMap.{BTreeMap, is_at}, Map.{lookup}}
+use Rattle.cacache_disk.specs.{declared.node.Node.{Node}, Tree.{Tree, Names, names_cmp, same_path}, AllStanding.{item_of, all_standing}}
 use Rattle.std.specs.FinMap as map
 use Rattle.std.specs.BTreeMap as btree
-use Rattle.cacache_disk.specs.{declared.node.Node.{Node}, Tree.{Tree, Names, names_cmp, same_path}}
 
 pub total : IsTotalOrder names_cmp
 total = lists_total nat_list_cmp_total
@@ -31,16 +31,14 @@ cut_map m n k u = map.same_map total only _ _ (λ q.
     ∙ sym (map.get-remove total (map.from_entries m.entries) k q ∙ ap (cond (eq_by_cmp names_cmp q k) None) (get_map m q)))
 
 pub is_eq_true : (o : Ordering) → is_eq o ≡ true → o ≡ Equal
-is_eq_true Equal e = refl
-is_eq_true o e = cc
+is_eq_true o e = grind (arith, common_steps)
 
 pub same_path-true : (p q : Names) → same_path p q ≡ true → p ≡ q
 same_path-true p q e = only p q (is_eq_true (names_cmp p q) e)
 
 -- a test and then another
 pub both : (a b : Bool) → T a → T b → T (a && b)
-both true b x y = y
-both false b x y = absurd x
+both a b x y = grind (arith, common_steps)
 
 below_of : (x : Names) (es : List (Names × Node)) → AllByRecursion (λ y. names_cmp x y ≡ Less) (keys_of (λ e. e.0) es) → T (below_all names_cmp x es)
 below_of x [] h = tt
@@ -63,9 +61,15 @@ pub written_map : (m n : BTreeMap Names Node) (k : Names) (v : Node) → IsSome 
 written_map m n k v there written = put_map m n k v (written.3 there)
 
 same_at : (t : Tree) (k q : Names) (v : Node) (b : Bool) → Some v ≡ map.get t k → same_path q k ≡ b → cond b (Some v) (map.get t q) ≡ map.get t q
-same_at t k q v true there e = there ∙ ap (map.get t) (sym (same_path-true q k e))
-same_at t k q v false there e = refl
+same_at t k q v b there e = grind (arith, same_path-true)
 
 -- putting what is at a key there again changes nothing
 pub put_same : (t : Tree) (k : Names) (v : Node) → Some v ≡ map.get t k → map.insert t k v ≡ t
 put_same t k v there = map.same_map total only _ _ (λ q. map.get-insert total t k v q ∙ same_at t k q v _ there refl)
+
+-- ---- all that is on a disk is what its map holds
+
+pub standing_entries : (m : BTreeMap Names Node) (t : Tree) (all : List (Names × Node)) → btree.IsOrdered names_cmp m → map.from_entries m.entries ≡ t
+    → all ≡ m.entries → each item_of all ≡ all_standing t
+unfolding all_standing
+standing_entries m t all ordered is same = ap (each item_of) (same ∙ sym (entries_map m ordered) ∙ ap map.entries is)

@@ -1,8 +1,8 @@
 -- What somebody else plants leaves each node in a folder.
 use Rattle.std.proofs.{Common.{◌≡◌, ◌==◌, ◌-◌, ◌+◌, ◌<◌, ◌≤◌, ℕ, Bool, true, false, cond, List, [], ◌∷◌, ◌++◌, Option, None, Some, Ok, length, refl, sym, ap, ap₂, subst, ◌∙◌, arith, eqb-true, length-append, append_assoc, append-nil}, Math.Seq.{take-append_seam}}
-use Rattle.cacache_core.specs.{declared.errors.Fault.TheVariants.{AlreadyExists, NotADirectory}, PathNames.{names_of}}
-use Rattle.cacache_disk.specs.{declared.node.Node.{Node, TheVariants.{Folder, File}}, Tree.{Tree, Names, look, put, same_path}, LedTo.{or_fault, dirs_fault, is_in_way, where_no_folder}, Apply.{planted, above_last, make_some, if_missing}, Rooted.{is_folder, AreProper, Rooted}}
-use Rattle.cacache_disk.proofs.{Maps.{same_path-true}, NameLemmas.{names_proper}, PutNodes.{look-put}, FoundNodes.{and_then_ok, or_fault_none, no_folder_at}, Roots.{put_rooted, make_rooted, front_proper, same_folder, same_self, no_fault, not_true, dirs_fault-put}}
+use Rattle.cacache_core.{specs.{declared.errors.Fault.TheVariants.{AlreadyExists, NotADirectory}, Paths.{names_of}}, proofs.ProperNames.{not_true}}
+use Rattle.cacache_disk.specs.{declared.node.Node.{Node, TheVariants.{Folder, File}}, Tree.{Tree, Names, look, put, same_path, is_folder, AreProper, Rooted}, LedTo.{or_fault, dirs_fault, is_in_way, where_no_folder}, Apply.{planted, above_last, make_some, if_missing}}
+use Rattle.cacache_disk.proofs.{Maps.{same_path-true}, PathTexts.{names_proper}, PutNodes.{look-put}, FoundNodes.{and_then_ok, or_fault_none, no_folder_at}, Roots.{put_rooted, make_rooted, front_proper, same_folder, same_self, no_fault, dirs_fault-put}}
 
 -- ---- the folders above a file
 

@@ -2,7 +2,7 @@
 use Rattle.std.proofs.Common.{◌≡◌, Bool, true, false, cond, refl, sym, ap, ◌∙◌}
 use Rattle.std.specs.{Prelude.{Option, None, Some}, Bool.{nat_eq}, Ordering.{nat_cmp}, Cmp.{eq_by_cmp_equiv, Lexicographic.{pointwise, slice_cmp, lists_ties, texts_ties}}}
 use Rattle.std.specs.FinMap as map
-use Rattle.cacache_disk.{specs.{declared.node.Node.{Node}, Tree.{Tree, Names, look, put, cut, same_path}, Rooted.{is_folder}}, proofs.Maps.{total, only, same_path-true}}
+use Rattle.cacache_disk.{specs.{declared.node.Node.{Node}, Tree.{Tree, Names, look, put, cut, same_path, is_folder}}, proofs.Maps.{total, only, same_path-true}}
 
 undone : (t : Tree) (p : Names) (node : Node) → None ≡ look t p → (q : Names) (b : Bool) → same_path q p ≡ b → cond b None (cond b (Some node) (look t q)) ≡ look t q
 undone t p node free q true e = free ∙ ap (look t) (sym (same_path-true q p e))

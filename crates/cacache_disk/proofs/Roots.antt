@@ -1,10 +1,10 @@
 -- What is put and cut leaves each node in a folder.
-use Rattle.std.proofs.Common.{◌≡◌, ◌==◌, ◌-◌, ℕ, Bool, true, false, cond, List, [], ◌∷◌, ◌++◌, Option, None, Some, length, refl, sym, ap, subst, ◌∙◌, arith, eqb-true, length-append, append_assoc}
+use Rattle.std.proofs.{lemmas.Grind.{common_steps}, Common.{rules, ◌≡◌, ◌==◌, ◌-◌, ℕ, Bool, true, false, cond, List, [], ◌∷◌, ◌++◌, Option, None, Some, length, refl, sym, ap, subst, ◌∙◌, arith, eqb-true, length-append, append_assoc}}
 use Rattle.std.specs.{Prelude.{IfSome}, Cmp.{eq_by_cmp_equiv}}
 use Rattle.std.specs.FinMap as map
-use Rattle.cacache_core.specs.{declared.errors.Fault.{Fault, TheVariants.{AlreadyExists, NotADirectory}}, Paths.{folder_names}}
-use Rattle.cacache_disk.specs.{declared.node.Node.{Node, TheVariants.{Folder, File}}, Tree.{Tree, Names, look, put, cut, bare, names_cmp, same_path}, LedTo.{dirs_fault, is_in_way}, Apply.{make_some, if_missing}, Rooted.{is_folder, StandsIn, AreProper, Rooted}}
-use Rattle.cacache_disk.proofs.{Maps.{total, same_path-true}, PutNodes.{look-put, look-cut, folders-cut}, PathFolders.{make_none}}
+use Rattle.cacache_core.{specs.{declared.errors.Fault.{Fault, TheVariants.{AlreadyExists, NotADirectory}}, Paths.{folder_names}}, proofs.ProperNames.{not_true}}
+use Rattle.cacache_disk.specs.{declared.node.Node.{Node, TheVariants.{Folder, File}}, Tree.{Tree, Names, look, put, cut, bare, names_cmp, same_path, is_folder, StandsIn, AreProper, Rooted}, LedTo.{dirs_fault, is_in_way}, Apply.{make_some, if_missing}}
+use Rattle.cacache_disk.proofs.{Maps.{total, same_path-true}, PutNodes.{look-put, look-cut, folders-cut}, PathTexts.{make_none}}
 
 -- proper names in a folder that is there
 pub record CanStand (t : Tree) (p : Names) : Type 0 where
@@ -22,49 +22,34 @@ proper_at t p q node true e all old = subst AreProper (sym (same_path-true q p e
 proper_at t p q node false e all old = old
 
 kept_at : (q : Names) (old : Option Node) (b : Bool) → IfSome old (λ node. AreProper q) → IfSome (cond b None old) (λ node. AreProper q)
-kept_at q old true all = tt
-kept_at q old false all = all
+kept_at q old b all = grind (arith, common_steps)
 
 longer : (above : Names) (name : List ℕ) → above ++ name ∷ [] ≡ above → ⊥
 longer above name e = let l : length (above ++ name ∷ []) ≡ length above = ap (λ (n : Names). length n) e in omega (arith, length-append above (name ∷ []))
 
-is_there : (here : Option Node) → here ≡ Some Folder → is_folder here ≡ true
-is_there here e = ap is_folder e
-
 -- nothing is below what is no folder
 nothing_below : (upper child : Option Node) (other : Option Node) → StandsIn upper child → is_folder upper ≡ false → StandsIn other child
-nothing_below upper None other s old = tt
-nothing_below upper (Some node) other s old = let differ : true ≡ false = sym (ap is_folder s) ∙ old in cc
+nothing_below upper child other s old = grind (arith, common_steps)
 
 top_put : (p : Names) (node : Node) (t : Tree) (b : Bool) → same_path [] p ≡ b → look t [] ≡ Some Folder → is_folder (look t p) ≡ false
     → cond b (Some node) (look t []) ≡ Some Folder
-top_put p node t true e top old = let differ : true ≡ false = sym (ap is_folder top) ∙ ap (λ q. is_folder (look t q)) (same_path-true [] p e) ∙ old in cc
-top_put p node t false e top old = top
+top_put p node t b e top old = grind (arith, same_path-true)
 
 put_at : (t : Tree) (p above : Names) (name : List ℕ) (node : Node) (x y : Bool) → same_path above p ≡ x → same_path (above ++ name ∷ []) p ≡ y
     → CanStand t p → is_folder (look t p) ≡ false
     → StandsIn (look t above) (look t (above ++ name ∷ []))
     → StandsIn (cond x (Some node) (look t above)) (cond y (Some node) (look t (above ++ name ∷ [])))
-put_at t p above name node true true e f stand old s = absurd (longer above name (same_path-true (above ++ name ∷ []) p f ∙ sym (same_path-true above p e)))
-put_at t p above name node false true e f stand old s = stand.parent above name (sym (same_path-true (above ++ name ∷ []) p f))
-put_at t p above name node true false e f stand old s =
-    nothing_below (look t above) (look t (above ++ name ∷ [])) (Some node) s (ap (λ q. is_folder (look t q)) (same_path-true above p e) ∙ old)
-put_at t p above name node false false e f stand old s = s
+put_at t p above name node x y e f stand old s = grind (arith, longer, same_path-true, nothing_below)
 
 pub put_rooted : (t : Tree) (p : Names) (node : Node) → Rooted t → CanStand t p → is_folder (look t p) ≡ false → Rooted (put t p node)
-put_rooted t p node rooted stand old = record {
-  top = look-put t p node [] ∙ top_put p node t (same_path [] p) refl rooted.top old;
-  folders = λ above name. rw (look-put t p node above, look-put t p node (above ++ name ∷ [])) (put_at t p above name node (same_path above p) (same_path (above ++ name ∷ []) p) refl refl stand old (rooted.folders above name));
-  proper = λ q. rw (look-put t p node q) (proper_at t p q node (same_path q p) refl stand.proper (rooted.proper q));
-}
+put_rooted t p node rooted stand old = search (rules, look-put, top_put, put_at, proper_at)
 
 -- a node without any below it can be cut
 abbrev pub IsBare : Tree → Names → Type 0
 IsBare t p = (name : List ℕ) → look t (p ++ name ∷ []) ≡ None
 
 top_cut : (p : Names) (t : Tree) (b : Bool) → same_path [] p ≡ b → look t [] ≡ Some Folder → (p ≡ [] → ⊥) → cond b None (look t []) ≡ Some Folder
-top_cut p t true e top below = absurd (below (sym (same_path-true [] p e)))
-top_cut p t false e top below = top
+top_cut p t b e top below = grind (arith, same_path-true)
 
 cut_at : (t : Tree) (p above : Names) (name : List ℕ) (x y : Bool) → same_path above p ≡ x → IsBare t p
     → StandsIn (look t above) (look t (above ++ name ∷ [])) → StandsIn (cond x None (look t above)) (cond y None (look t (above ++ name ∷ [])))
@@ -80,8 +65,7 @@ cut_rooted t p rooted below bare = record {
 }
 
 file_bare : (upper child : Option Node) → StandsIn upper child → is_folder upper ≡ false → child ≡ None
-file_bare upper None s old = refl
-file_bare upper (Some node) s old = let differ : true ≡ false = sym (ap is_folder s) ∙ old in absurd cc
+file_bare upper child s old = grind (arith, common_steps)
 
 pub file_cut : (t : Tree) (p : Names) → Rooted t → is_folder (look t p) ≡ false → Rooted (cut t p)
 file_cut t p rooted old =
@@ -94,8 +78,7 @@ same_self p = (eq_by_cmp_equiv total).refl p
 -- a folder stays if a file is cut
 still_at : (t : Tree) (old above : Names) (b : Bool) → same_path above old ≡ b → is_folder (look t old) ≡ false → look t above ≡ Some Folder
     → cond b None (look t above) ≡ Some Folder
-still_at t old above true e no_folder is = let differ : true ≡ false = sym (ap is_folder is) ∙ ap (λ q. is_folder (look t q)) (same_path-true above old e) ∙ no_folder in cc
-still_at t old above false e no_folder is = is
+still_at t old above b e no_folder is = grind (arith, same_path-true)
 
 pub persist_rooted : (t : Tree) (old new : Names) (bytes : List ℕ) → Rooted t → is_folder (look t old) ≡ false → CanStand t new
     → is_folder (look t new) ≡ false → Rooted (put (cut t old) new (File bytes))
@@ -118,8 +101,7 @@ same_folder a b x y e = sym (folder_names-snoc a x) ∙ ap folder_names e ∙ fo
 
 way_at : (t : Tree) (p q : Names) (b : Bool) → same_path q p ≡ b → is_in_way (look t p) ≡ false
     → is_in_way (cond b (Some Folder) (look t q)) ≡ is_in_way (look t q)
-way_at t p q true e clear = sym (ap (λ r. is_in_way (look t r)) (same_path-true q p e) ∙ clear)
-way_at t p q false e clear = refl
+way_at t p q b e clear = grind (arith, same_path-true)
 
 -- a folder made where nothing was is in nobody's way
 pub dirs_fault-put : (t : Tree) (p above rest : Names) → is_in_way (look t p) ≡ false
@@ -130,8 +112,7 @@ dirs_fault-put t p above (name ∷ rest) clear =
     rw (same, dirs_fault-put t p (above ++ name ∷ []) rest clear) refl
 
 pub no_fault : (b : Bool) (fault : Fault) (later : Option Fault) → cond b (Some fault) later ≡ None → (b ≡ false) × (later ≡ None)
-no_fault true fault later e = absurd cc
-no_fault false fault later e = (refl, e)
+no_fault b fault later e = grind (arith, common_steps)
 
 made_rooted : (above rest : Names) (name : List ℕ) (t : Tree) (here : Option Node) (count : ℕ) (b : Bool) → look t (above ++ name ∷ []) ≡ here
     → (count == 0) ≡ b → is_in_way here ≡ false → Rooted t → AreProper (above ++ name ∷ []) → look t above ≡ Some Folder
@@ -165,10 +146,6 @@ make_rooted t above (name ∷ rest) count rooted proper upper e =
 pub look-bare : (q : Names) → look bare q ≡ cond (same_path q []) (Some Folder) None
 look-bare q = look-put map.empty [] Folder q ∙ ap (cond (same_path q []) (Some Folder)) (map.get-empty names_cmp q)
 
-pub not_true : (b : Bool) → (b ≡ true → ⊥) → b ≡ false
-not_true true h = absurd (h refl)
-not_true false h = refl
-
 pub bare_below : (above : Names) (name : List ℕ) (rest : Names) → look bare (above ++ name ∷ rest) ≡ None
 bare_below above name rest =
     let apart : same_path (above ++ name ∷ rest) [] ≡ false
@@ -180,8 +157,4 @@ bare_proper q true e = subst AreProper (sym (same_path-true q [] e)) tt
 bare_proper q false e = tt
 
 pub bare_rooted : Rooted bare
-bare_rooted = record {
-  top = look-bare [] ∙ ap (λ b. cond b (Some Folder) None) (same_self []);
-  folders = λ above name. subst (StandsIn (look bare above)) (sym (bare_below above name [])) tt;
-  proper = λ q. rw (look-bare q) (bare_proper q (same_path q []) refl);
-}
+bare_rooted = search (rules, look-bare, same_self, bare_below, bare_proper)

@@ -1,8 +1,22 @@
--- What the deepest node on a path says of the whole path.
-use Rattle.std.proofs.{Common.{◌≡◌, ◌<◌, ◌+◌, ◌-◌, ℕ, suc, List, [], ◌∷◌, ◌++◌, Option, None, Some, Ok, length, take, drop, refl, sym, ap, subst, ◌∙◌, arith, append-nil, append_assoc}, lemmas.List.{take-append-drop, length-drop, take-take, length-take-le}}
-use Rattle.cacache_disk.specs.{declared.node.Node.{Node, TheVariants.{Folder}}, Tree.{Tree, Names, look}, LedTo.{way_fault, through, dirs_fault, place, or_fault}, Apply.{make_some}, Rooted.{Rooted, StandsIn}, Deepest.{IsMissing, IsDeepest, way_past, dirs_past, MakesFrom}}
-use Rattle.cacache_disk.proofs.PathFolders.{drop_here, front_next}
-use Rattle.cacache_core.specs.PathNames.{names_of}
+-- One more link, and what the deepest node on a path says of the whole path.
+use Rattle.std.proofs.{Common.{◌≡◌, ◌<◌, ◌-◌, ℕ, zero, suc, refl, arith, List, ◌+◌, [], ◌∷◌, ◌++◌, Option, None, length, take, drop, sym, ap, subst, ◌∙◌, append-nil, append_assoc}, lemmas.{Grind.{common_steps}, List.{take-append-drop, length-drop, take-take, length-take-le}}}
+use Rattle.std.specs.Prelude.{Some, Ok}
+use Rattle.cacache_core.specs.Paths.{Names, names_of}
+use Rattle.cacache_disk.specs.{declared.node.Node.{TheVariants.{Link, Folder}, Node}, Tree.{Tree, look, Rooted, StandsIn}, LedTo.{followed, standing, and_then, way_fault, through, dirs_fault, place, or_fault}, Apply.{make_some}, Deepest.{IsMissing, IsDeepest, way_past, dirs_past, MakesFrom}}
+use Rattle.cacache_disk.proofs.PathTexts.{drop_here, front_next}
+
+pub followed_next : (most : ℕ) (t : Tree) (names : Names) (target : List ℕ) → Some (Link target) ≡ look t names → 0 < most
+    → followed most t names ≡ and_then (standing t target) (followed (most - 1) t)
+unfolding followed
+followed_next zero t names target link some = absurd (omega arith)
+followed_next (suc most) t names target link some = let e : suc most - 1 ≡ most = omega arith in rw (← link, e)
+
+-- its target is there
+pub followed_ok : (most : ℕ) (t : Tree) (names : Names) (target : List ℕ) (next : Names) → Some (Link target) ≡ look t names → 0 < most → Ok next ≡ standing t target
+    → followed most t names ≡ followed (most - 1) t next
+followed_ok most t names target next link some found = rw (followed_next most t names target link some, ← found) refl
+
+-- ---- what the deepest node on a path says of the whole path
 
 -- all nodes above a node are folders
 pub upper_folder : (t : Tree) (p rest : Names) (name : List ℕ) (node : Node) → Rooted t → look t (p ++ name ∷ rest) ≡ Some node → look t p ≡ Some Folder
@@ -19,8 +33,7 @@ way_clear t p rest node rooted e = refl
 
 -- nothing is below a missing node
 missing_child : (upper child : Option Node) → StandsIn upper child → upper ≡ None → child ≡ None
-missing_child upper None s e = refl
-missing_child upper (Some node) s e = let differ : None ≡ Some Folder = sym e ∙ s in absurd cc
+missing_child upper child s e = grind (arith, common_steps)
 
 missing_below : (t : Tree) (p : Names) (name : List ℕ) → Rooted t → look t p ≡ None → look t (p ++ name ∷ []) ≡ None
 missing_below t p name rooted e = missing_child (look t p) (look t (p ++ name ∷ [])) (rooted.folders p name) e
@@ -49,9 +62,7 @@ way_to t p (a ∷ b ∷ above) rest name node rooted top e =
 
 past : (t : Tree) (above rest : Names) (name : List ℕ) (node : Node) → look t (above ++ name ∷ []) ≡ None
     → through (Some node) (way_fault t above (name ∷ rest)) ≡ way_past node (suc (length rest))
-past t above [] name Folder none = refl
-past t above (next ∷ rest) name Folder none = rw none refl
-past t above rest name node none = refl
+past t above rest name node none = grind (arith, common_steps)
 
 way_split : (t : Tree) (above rest : Names) (node : Node) → Rooted t → look t above ≡ Some node → IsMissing t above rest
     → way_fault t [] (above ++ rest) ≡ way_past node (length rest)
@@ -74,13 +85,11 @@ dirs_missing t p (name ∷ rest) rooted e =
     rw none (dirs_missing t (p ++ name ∷ []) rest rooted none)
 
 dirs_below : (t : Tree) (p rest : Names) → Rooted t → IsMissing t p rest → dirs_fault t p rest ≡ None
-dirs_below t p [] rooted missing = refl
-dirs_below t p (name ∷ rest) rooted missing = rw missing (dirs_missing t (p ++ name ∷ []) rest rooted missing)
+dirs_below t p rest rooted missing = grind (arith, dirs_missing)
 
 dirs_last : (t : Tree) (p rest : Names) (name : List ℕ) (node : Node) → Rooted t → look t (p ++ name ∷ []) ≡ Some node → IsMissing t (p ++ name ∷ []) rest
     → dirs_fault t p (name ∷ rest) ≡ dirs_past node (length rest)
-dirs_last t p rest name Folder rooted e missing = rw e (dirs_below t (p ++ name ∷ []) rest rooted missing)
-dirs_last t p rest name node rooted e missing = rw e refl
+dirs_last t p rest name node rooted e missing = grind (arith, dirs_below)
 
 dirs_to : (t : Tree) (p above rest : Names) (node : Node) → Rooted t → look t p ≡ Some Folder → look t (p ++ above) ≡ Some node
     → IsMissing t (p ++ above) rest → dirs_fault t p (above ++ rest) ≡ dirs_past node (length rest)

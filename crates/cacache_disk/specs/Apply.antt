@@ -1,6 +1,6 @@
 -- What a step answers on a tree, and the tree after it.
 use Rattle.std.specs.{Prelude.{◌≡◌, ℕ, ◌-◌, ◌==◌, Bool, true, false, if◌then◌else◌, List, [], ◌∷◌, ◌++◌, Option, None, Some, Result, Ok, Err, length, take, drop, min, max}, Result.{result_ok}}
-use Rattle.cacache_core.specs.{declared.errors.Fault.{Fault, TheVariants.{NotFound, NotADirectory, IsADirectory, InvalidInput, Closed, Device}}, PathNames.{Names, names_of}}
+use Rattle.cacache_core.specs.{declared.errors.Fault.{Fault, TheVariants.{NotFound, NotADirectory, IsADirectory, InvalidInput, Closed, Device}}, Paths.{Names, names_of}}
 use Rattle.cacache_store.specs.{declared.store.{plain.{PlainFile.{PlainFile}, PlainTemp.{PlainTemp}}, step.Step.TheVariants.{MakeDirs, CreateTemp, Write, Persist, Append, ReadAll, Open, Read, Size, Exists, Symlink, Copy, Reflink, HardLink, ReadDir, RemoveFile, RemoveDir, SyncTemp, SyncFile, SyncDir}, answer.Answer.TheVariants.{Done, Temp, Wrote, Took, Bytes, Got, There, Length, Synced, Failed}}, Plain.{PlainStep, PlainAnswer}}
 use Rattle.cacache_store.specs.declared.store.answer.Answer.TheVariants as answer
 use Rattle.cacache_disk.specs.declared.find.Wanted.TheVariants as wanted

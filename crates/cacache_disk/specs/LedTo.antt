@@ -1,6 +1,6 @@
 -- What a path leads to in a tree, or why it leads nowhere.
 use Rattle.std.specs.Prelude.{ℕ, zero, suc, Bool, true, false, ◌==◌, if◌then◌else◌, List, [], ◌∷◌, ◌++◌, length, Option, None, Some, Result, Ok, Err}
-use Rattle.cacache_core.specs.{declared.errors.Fault.{Fault, TheVariants.{NotFound, AlreadyExists, NotADirectory, IsADirectory, NotEmpty, TooDeep, Closed}}, PathNames.{Names, names_of}}
+use Rattle.cacache_core.specs.{declared.errors.Fault.{Fault, TheVariants.{NotFound, AlreadyExists, NotADirectory, IsADirectory, NotEmpty, TooDeep, Closed}}, Paths.{Names, names_of}}
 use Rattle.cacache_disk.specs.{declared.{find.Wanted.{Wanted}, node.Node.{Node, TheVariants.{Folder, File, Link}}}, Tree.{Tree, look, listing}}
 use Rattle.cacache_disk.specs.declared.find.Wanted.TheVariants as wanted
 

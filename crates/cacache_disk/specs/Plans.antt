@@ -1,7 +1,8 @@
--- What a step is about to do, against the table of steps.
-use Rattle.std.specs.Prelude.{◌≡◌, ℕ, Bool, List, Option, None, Some, if◌then◌else◌, take, drop}
-use Rattle.cacache_store.specs.{declared.store.answer.Answer.TheVariants.{Failed}, Fits.{Fits}, Plain.{PlainStep}}
+-- What a step is about to do, against the table of steps, and why the code stops.
+use Rattle.std.specs.Prelude.{◌≡◌, ℕ, Bool, List, Option, None, Some, if◌then◌else◌, take, drop, Result, Err}
+use Rattle.cacache_store.specs.{declared.store.answer.Answer.TheVariants.{Failed}, Plain.{Fits, PlainStep}}
 use Rattle.cacache_disk.specs.{declared.{change.{Change.{Change}, Plan.{Plan}}, luck.Luck.{Luck, TheVariants.{Plain, Fail, Take}}, node.Node.TheVariants.{File}, stop.Stop.{Stop}}, Tree.{Tree, Names, put, cut}, Apply.{plain, make_some, lengthened, is_taking, is_parted, made_up, fault_told}}
+use Rattle.cacache_core.specs.declared.errors.Fault.{Fault}
 use Rattle.cacache_disk.specs.declared.change.Change.TheVariants as change
 use Rattle.cacache_disk.specs.declared.stop.Stop.TheVariants as stop
 
@@ -50,3 +51,15 @@ with_luck step (Fail fault part) plan = record {
   answer = Failed (made_up fault);
   change = left_over (is_parted step) part plan.change;
 }
+
+-- ---- why the code stops, against what the definitions say
+
+-- a fault is the one that is defined; memory may be refused anywhere
+abbrev pub Stops : {A : Type 0} → Stop → Result A Fault → Type 0
+Stops (stop.Fault fault) defined = defined ≡ Err fault
+Stops stop.OutOfMemory defined = Unit {0}
+
+-- a fault is the one that is found; memory may be refused anywhere
+abbrev pub Blocks : Stop → Option Fault → Type 0
+Blocks (stop.Fault fault) found = found ≡ Some fault
+Blocks stop.OutOfMemory found = Unit {0}

@@ -1,10 +1,11 @@
--- A disk's tree: the node at each path. The top folder is at the empty list of names.
-use Rattle.std.specs.{Prelude.{ℕ, Bool, if◌then◌else◌, List, [], ◌∷◌, ◌++◌, Option, None, Some, length, ◌==◌, ◌+◌, ◌&&◌, take, slice_index_or}, declared.cmp.Ordering.{Ordering}, Ordering.{nat_cmp, eq_by_cmp}, Bool.{nat_eq}, Cmp.Lexicographic.{pointwise, slice_cmp}, List.{filter_map, list_any}}
-use Rattle.std.specs.FinMap as map
+-- A disk's tree: the node at each path, and trees in which each node is in a folder.
+use Rattle.std.specs.{Prelude.{ℕ, Bool, if◌then◌else◌, List, [], ◌∷◌, ◌++◌, Option, None, Some, length, ◌==◌, ◌+◌, ◌&&◌, take, slice_index_or, ◌≡◌, true, false, IfSome}, declared.cmp.Ordering.{Ordering}, Ordering.{nat_cmp, eq_by_cmp}, Bool.{nat_eq}, Cmp.Lexicographic.{pointwise, slice_cmp}, List.{filter_map, list_any, AllByRecursion}}
 use Rattle.cacache_store.specs.declared.store.answer.{Kind.{Kind}, Name.{Name}}
-use Rattle.cacache_store.specs.declared.store.answer.Kind.TheVariants as kinds
 use Rattle.cacache_disk.specs.declared.node.Node.{Node, TheVariants.{Folder, File, Link}}
-pub use Rattle.cacache_core.specs.PathNames.{Names}
+use Rattle.cacache_core.specs.Paths.{IsProperName}
+use Rattle.std.specs.FinMap as map
+use Rattle.cacache_store.specs.declared.store.answer.Kind.TheVariants as kinds
+pub use Rattle.cacache_core.specs.Paths.{Names}
 
 -- the order of paths, name by name
 abbrev pub names_cmp : Names → Names → Ordering
@@ -74,3 +75,27 @@ child_of folder entry =
 -- the names in a folder and what is there, in the order of the names' bytes
 unfoldable pub listing : Tree → Names → List Name
 listing t folder = filter_map (child_of folder) (map.entries t)
+
+-- ---- trees in which each node is in a folder
+
+-- whether a node is a folder
+abbrev pub is_folder : Option Node → Bool
+is_folder None = false
+is_folder (Some Folder) = true
+is_folder (Some (File bytes)) = false
+is_folder (Some (Link target)) = false
+
+-- if something is there, the node above it is a folder
+abbrev pub StandsIn : Option Node → Option Node → Type 0
+StandsIn upper child = IfSome child (λ node. upper ≡ Some Folder)
+
+-- each of the names stands for one thing in its folder
+abbrev pub AreProper : Names → Type 0
+AreProper = AllByRecursion IsProperName
+
+-- the top folder is there, each node is in a folder, and its names are proper
+pub record Rooted (t : Tree) : Type 0 where
+  pub top : look t [] ≡ Some Folder
+  pub folders : (above : Names) (name : List ℕ)
+      → StandsIn (look t above) (look t (above ++ name ∷ []))
+  pub proper : (names : Names) → IfSome (look t names) (λ node. AreProper names)

@@ -1,4 +1,1 @@
-pub mod Replay
-pub mod ForeignLog
-pub mod PlantRefusals
 pub mod StoreKept

@@ -1,7 +1,7 @@
 //! A disk in memory, step by step.
 ghost use Rattle.std.specs.{Prelude.{◌≡◌, false, IfOk, OnOk, OnErr, MatchResult, Ok, Err, option_map, option_copied}, Arc.{arc_value}};
-ghost use Rattle.cacache_store.specs.Fits.{Fits, is_no_memory};
-ghost use Rattle.cacache_disk.specs.{Rooted.{Rooted}, Tree.{bare}, Apply.{apply, Plants, bytes_at}};
+ghost use Rattle.cacache_store.specs.Plain.{Fits, is_no_memory};
+ghost use Rattle.cacache_disk.specs.{Tree.{Rooted, bare}, Apply.{apply, Plants, bytes_at}};
 
 use crate::change::Plan;
 use crate::luck::Luck;
@@ -37,7 +37,7 @@ impl Model for Disk {
 
     ghost view = { λ d. d.nodes };
 
-    ghost use Rattle.cacache_disk.specs.Rooted.{Rooted};
+    ghost use Rattle.cacache_disk.specs.Tree.{Rooted};
 
     ghost invariant = { λ d. Rooted d.nodes };
 }

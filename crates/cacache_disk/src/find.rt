@@ -1,6 +1,6 @@
 //! What a path leads to, or why it leads nowhere.
 ghost use Rattle.std.specs.Prelude.{◌≡◌, [], None, Ok, IfOk, IfErr, option_copied};
-ghost use Rattle.cacache_disk.specs.{Tree.{look}, LedTo.{place, followed, leads, writable, at, end_at, misfit, suited, file_at, kept, linked, emptied, dirs_fault}, Deepest.{MakesFrom}, Stops.{Stops, Blocks}};
+ghost use Rattle.cacache_disk.specs.{Tree.{look}, LedTo.{place, followed, leads, writable, at, end_at, misfit, suited, file_at, kept, linked, emptied, dirs_fault}, Deepest.{MakesFrom}, Plans.{Stops, Blocks}};
 
 use crate::contents::Contents;
 use crate::disk::Disk;

@@ -2,8 +2,8 @@
 ghost use Rattle.std.specs.{Prelude.{◌≡◌, ◌++◌, ◌∷◌, [], Some, OnOk, OnErr}, Bool.{nat_eq}, Ordering.{nat_cmp}, Cmp.Lexicographic.{pointwise, slice_cmp, texts_ties, nat_list_eq_equiv, nat_list_cmp_total, texts_po}};
 ghost use Rattle.std.proofs.Common.{refl};
 ghost use Rattle.std.specs.Cmp;
-ghost use Rattle.cacache_core.specs.PathNames.{IsProperName};
-ghost use Rattle.cacache_store.specs.Fits.{AreProperNames};
+ghost use Rattle.cacache_core.specs.Paths.{IsProperName};
+ghost use Rattle.cacache_store.specs.Plain.{AreProperNames};
 
 use cacache_core::text::Text;
 use cacache_store::store::{Kind, Listing, Name};
@@ -19,7 +19,7 @@ pub(crate) struct ProperName {
 
 impl Model for ProperName {
     ghost use Rattle.std.specs.Prelude.{ℕ, List};
-    ghost use Rattle.cacache_core.specs.PathNames.{IsProperName};
+    ghost use Rattle.cacache_core.specs.Paths.{IsProperName};
 
     ghost Value = { List ℕ };
 
@@ -101,7 +101,7 @@ pub(crate) struct ProperNames {
 
 impl Model for ProperNames {
     ghost use Rattle.std.specs.Prelude.{List};
-    ghost use Rattle.cacache_store.specs.Fits.{AreProperNames};
+    ghost use Rattle.cacache_store.specs.Plain.{AreProperNames};
     ghost use Rattle.cacache_store.specs.declared.store.answer.Name.{Name};
 
     ghost Value = { List Name };

@@ -2,7 +2,7 @@
 ghost use Rattle.std.specs.Prelude.{◌≡◌, ◌==◌, IfOk, OnOk, OnErr, length, option_copied};
 ghost use Rattle.std.specs.FinMap as map;
 ghost use Rattle.cacache_disk.specs.{declared.node.Node.TheVariants.{File}, Tree.{look, put, cut, listing}, Apply.{lengthened}};
-ghost use Rattle.cacache_store.specs.Fits.{AreProperNames};
+ghost use Rattle.cacache_store.specs.Plain.{AreProperNames};
 
 pub(crate) mod standing;
 

@@ -1,8 +1,8 @@
 //! Paths as names from the top folder down.
 ghost use Rattle.std.specs.{Prelude.{◌≡◌, ◌+◌, ◌-◌, ◌++◌, ◌∷◌, ◌≤◌, ◌<◌, ◌==◌, [], List, Ok, IfOk, IfErr, OnOk, OnErr, length, take, Some, slice_index_or}, Bool.{OnTrue, nat_eq}, Ordering.{nat_cmp}, Cmp.Lexicographic.{pointwise, slice_cmp, slice_partial_cmp, lists_equiv, lists_agrees, lists_total, lists_ties, nat_list_eq_equiv, nat_list_cmp_total, texts_ties, lists_po, texts_po}};
 ghost use Rattle.std.proofs.Common.{refl};
-ghost use Rattle.cacache_disk.specs.{Tree.{is_below, is_child}, Stops.{Stops}};
-ghost use Rattle.cacache_core.specs.PathNames.{names_of};
+ghost use Rattle.cacache_disk.specs.{Tree.{is_below, is_child}, Plans.{Stops}};
+ghost use Rattle.cacache_core.specs.Paths.{names_of};
 ghost use Rattle.std.specs.Cmp;
 
 use crate::name::ProperName;

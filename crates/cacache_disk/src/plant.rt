@@ -1,6 +1,6 @@
 //! What somebody else may do to a disk.
 ghost use Rattle.std.specs.Prelude.{◌≡◌, IfOk, IfErr, Ok};
-ghost use Rattle.cacache_disk.specs.{Apply.{planted}, Plans.{changed}, Stops.{Stops}};
+ghost use Rattle.cacache_disk.specs.{Apply.{planted}, Plans.{changed, Stops}};
 
 use crate::change::Change;
 use crate::contents::Contents;

@@ -1,6 +1,6 @@
 //! Steps on a disk.
 ghost use Rattle.std.specs.Prelude.{◌≡◌, Option, false, IfOk, IfErr};
-ghost use Rattle.cacache_store.specs.Fits.{Fits, is_no_memory};
+ghost use Rattle.cacache_store.specs.Plain.{Fits, is_no_memory};
 ghost use Rattle.cacache_disk.specs.{Apply.{apply, is_taking, is_parted, made_up}, Plans.{IsPlan, Refuses, changed, most_of, with_luck, left_over}};
 
 pub(crate) mod answers;

@@ -1,6 +1,6 @@
 //! The folders on the way of a path.
 ghost use Rattle.std.specs.Prelude.{◌≡◌, IfOk, OnOk, OnErr, take, drop};
-ghost use Rattle.cacache_disk.specs.{Rooted.{Rooted}, Deepest.{IsDeepest, way_past, dirs_past}, Apply.{make_some}, Plans.{with_file}};
+ghost use Rattle.cacache_disk.specs.{Tree.{Rooted}, Deepest.{IsDeepest, way_past, dirs_past}, Apply.{make_some}, Plans.{with_file}};
 
 use crate::contents::Contents;
 use crate::node::Node;

@@ -1,5 +1,5 @@
 -- No cause speaks against an entry if and only if the entry fits.
-use Rattle.std.proofs.{Common.{◌≡◌, ℕ, ◌^◌, ◌<◌, ◌≤◌, List, [], ◌∷◌, Bool, true, false, not, Option, Some, None, refl, sym, ap, ◌∙◌, arith}, lemmas.Bool.{leb-true, leb-false, ltb-false, le-ltb, lt-ltb, lt-leb, le-leb}}
+use Rattle.std.proofs.{lemmas.{Grind.{common_steps}, Bool.{leb-false, ltb-false}}, Common.{rules, ◌≡◌, ℕ, ◌^◌, ◌<◌, ◌≤◌, List, [], ◌∷◌, Bool, false, not, Option, Some, None, refl, sym, arith}}
 use Rattle.std.specs.Prelude.{nat_lt, nat_le, if◌then◌else◌}
 use Rattle.serde_json.specs.{Data.{depth, items_depth, object}, Read.{max_depth}, Written.{has_float}}
 use Rattle.cacache_core.specs.declared.errors.SerdeCause.{SerdeCause, TheVariants.{TimeTooLarge, NotWhole, TooDeep}}
@@ -16,10 +16,7 @@ record NoCause (late float deep : Bool) : Type 0 where
   flat : deep ≡ false
 
 no_cause : (late float deep : Bool) → first_cause late float deep ≡ None → NoCause late float deep
-no_cause true float deep e = absurd cc
-no_cause false true deep e = absurd cc
-no_cause false false true e = absurd cc
-no_cause false false false e = record { early = refl; whole = refl; flat = refl }
+no_cause late float deep e = grind (arith, common_steps)
 
 -- an entry with no cause against it has an early time
 pub is_early : (e : Entry) → cause_of e ≡ None → e.time < 2 ^ 64
@@ -40,34 +37,22 @@ Fits-no_cause e h none = record { time = is_early e none; size = h.size; whole =
 -- ---- how deep an entry nests
 
 depth-text_or_null : (o : Option (List ℕ)) → depth (text_or_null o) ≤ 0
-depth-text_or_null None = omega arith
-depth-text_or_null (Some s) = omega arith
+depth-text_or_null o = grind (arith, common_steps)
 
 depth-byte_items : (bs : List ℕ) → items_depth (byte_items bs) ≤ 0
 depth-byte_items [] = omega arith
 depth-byte_items (b ∷ bs) = omega (arith, depth-byte_items bs)
 
 depth-bytes_or_null : (o : Option (List ℕ)) → depth (bytes_or_null o) ≤ 1
-depth-bytes_or_null None = omega arith
-depth-bytes_or_null (Some bs) = omega (arith, depth-byte_items bs)
+depth-bytes_or_null o = grind (arith, depth-byte_items)
 
 -- the text nests too deep if and only if the metadata nests deeper than 126 levels
 pub is_deep : (e : Entry) → nat_lt max_depth (depth (object (members_of e))) ≡ not (nat_le (depth e.metadata) 126)
-is_deep e = by (nat_le (depth e.metadata) 126) refl
-  where
-    by : (b : Bool) → nat_le (depth e.metadata) 126 ≡ b → nat_lt max_depth (depth (object (members_of e))) ≡ not b
-    by true h = le-ltb _ _ (omega (arith, leb-true _ _ h, depth-text_or_null e.integrity, depth-bytes_or_null e.raw_metadata))
-    by false h = lt-ltb _ _ (omega (arith, leb-false _ _ h))
+is_deep e = search (rules, depth-text_or_null, depth-bytes_or_null)
 
 -- an early entry with only whole numbers, which nests flat enough, has no cause against it
 pub cause_of-none : (e : Entry) → e.time < 2 ^ 64 → has_float e.metadata ≡ false → depth e.metadata ≤ 126 → None ≡ cause_of e
-cause_of-none e early whole flat = by (nat_le (2 ^ 64) e.time) (has_float e.metadata) (nat_lt max_depth (depth (object (members_of e)))) (lt-leb _ _ early) whole (is_deep e ∙ ap not (le-leb _ _ flat))
-  where
-    by : (late float deep : Bool) → late ≡ false → float ≡ false → deep ≡ false → None ≡ first_cause late float deep
-    by true float deep h i j = absurd cc
-    by false true deep h i j = absurd cc
-    by false false true h i j = absurd cc
-    by false false false h i j = refl
+cause_of-none e early whole flat = search (rules, is_deep)
 
 -- metadata of an entry that nests no deeper than its limit
 pub flat_metadata : (e : Entry) → cause_of e ≡ None → depth e.metadata ≤ 126

@@ -4,12 +4,12 @@ use Rattle.std.specs.Prelude.{IsUtf8}
 use Rattle.json.{specs.Print.{quoted}, proofs.Printed.Utf8.{are_ascii, IsUtf8-are_ascii, IsUtf8-quoted}}
 use Rattle.serde_json.specs.Written.{comma_if, compact_text, items_text}
 use Rattle.cacache_entry.specs.{Entry.{Entry, text_or_null, byte_items, bytes_or_null, front_of, text_of}, FittingEntries.{EachIsByte, AreBytes, IsUtf8IfAny, IsEntry}}
-use Rattle.cacache_entry.proofs.TextParts.{front-text}
+use Rattle.cacache_entry.proofs.EntryTexts.{front-text}
 
 IsUtf8-decimal : (n : ℕ) → n < 2 ^ 64 → IsUtf8 (decimal n)
 IsUtf8-decimal n h = IsUtf8-from_ascii (decimal n) (IsAscii-decimal n h)
 
-IsUtf8-comma_if : (later : Bool) → IsUtf8 (comma_if later)
+pub IsUtf8-comma_if : (later : Bool) → IsUtf8 (comma_if later)
 IsUtf8-comma_if true = IsUtf8-are_ascii (44 ∷ []) refl
 IsUtf8-comma_if false = IsUtf8-nil
 

@@ -1,11 +1,7 @@
 pub mod EntryCauses
-pub mod Appends
-pub mod Cuts
-pub mod Digits
-pub mod Lines
 pub mod Levels
 pub mod Lookups
-pub mod TextParts
+pub mod EntryTexts
 pub mod Pieces
 pub mod PlainEntries
 pub mod PlainTexts

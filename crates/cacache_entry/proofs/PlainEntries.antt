@@ -2,7 +2,7 @@
 use Rattle.std.proofs.{Common.{◌≡◌, ℕ, ◌<◌, ◌^◌, List, Option, Some, None, option_map, sym, ap, ◌∙◌, subst}, lemmas.Str.{IsUtf8-string_bytes}}
 use Rattle.std.specs.{Prelude.{IsUtf8, String, string_bytes}, declared.alloc.Global.{Global}}
 use Rattle.cacache_entry.specs.{Bucket.{entry_of_piece}, Entry.{piece_of}, EntryLaws.{bare_entry}, FittingEntries.{IsUtf8IfAny}, View.{entry_view}, declared.metadata.SerializableMetadata.{SerializableMetadata}}
-use Rattle.cacache_entry.proofs.{EntryCauses.{bare_entries_fit}, Lines.{entry_of_piece-whole}}
+use Rattle.cacache_entry.proofs.{EntryCauses.{bare_entries_fit}, Lookups.{entry_of_piece-whole}}
 
 -- if an optional text of the program is there, it is UTF-8
 pub utf8_if_any : (o : Option (String Global)) → IsUtf8IfAny (option_map string_bytes o)

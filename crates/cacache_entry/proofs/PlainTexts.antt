@@ -1,9 +1,9 @@
 -- An entry's text has no control character; a text without those, quotes and backslashes needs no escapes.
-use Rattle.std.proofs.{Common.{◌≡◌, ℕ, suc, ◌/◌, ◌%◌, ◌<◌, ◌≤◌, negsuc, List, [], ◌∷◌, ◌++◌, Bool, true, false, not, ◌&&◌, ◌||◌, ◌==◌, cond, decimal, refl, ap, ap₂, arith, inl, inr, ◌⊎◌}, lemmas.{Bool.{ne_eqb, and_parts, and_from, or_cases, le-leb, leb-true, eqb-true, ltb-true, ltb-false}, Fmt.{decimal_is_IsNumeral}}}
-use Rattle.std.specs.{Prelude.{nat_lt, nat_le}, Char.{digit_char, digit_value}, Str.Parse.{AllDigits}}
-use Rattle.json.{specs.{Token.{Token}, Print.{token_text, escape_letter, escape_byte, escape, quoted}}, proofs.Printed.Strings.{escape_byte_plain}}
+use Rattle.std.proofs.{lemmas.{Grind.{common_steps}, Bool.{ne_eqb, and_parts, and_from, le-leb, leb-true}, Fmt.{decimal_is_IsNumeral}}, Common.{rules, ◌≡◌, ℕ, suc, ◌/◌, ◌%◌, ◌<◌, ◌≤◌, negsuc, List, [], ◌∷◌, ◌++◌, Bool, true, false, not, ◌&&◌, ◌==◌, cond, decimal, refl, ap, ap₂, arith, ◌⊎◌}}
+use Rattle.std.specs.{Prelude.{nat_le}, Char.{digit_char, digit_value}, Str.Parse.{AllDigits}}
+use Rattle.json.{specs.{Token.{Token}, Print.{token_text, escape_byte, escape, quoted}}, proofs.Printed.Strings.{escape_byte_plain}}
 use Rattle.serde_json.specs.{Data.{Num, unsigned, negative, Data, null, boolean, number, string, array, object, Items, no_items, item, Members, no_members, member}, Written.{number_text, comma_if, compact_text, items_text, members_text}}
-use Rattle.cacache_entry.{specs.FittingEntries.{IsWholeNumber, IsWhole, ItemsAreWhole, MembersAreWhole}, proofs.Cuts.{lacks}}
+use Rattle.cacache_entry.{specs.FittingEntries.{IsWholeNumber, IsWhole, ItemsAreWhole, MembersAreWhole}, proofs.Pieces.{lacks}}
 
 -- no byte is below 32
 abbrev pub plain : List ℕ → Bool
@@ -27,31 +27,19 @@ more : (b : ℕ) (bs : List ℕ) → 32 ≤ b → plain bs ≡ true → plain (b
 more b bs h k = and_from _ _ (le-leb 32 b h) k
 
 letter : (a b c d e f : Bool) (x : ℕ) → (a ≡ true → 32 ≤ x) → let l = cond a x (cond b 98 (cond c 102 (cond d 110 (cond e 114 (cond f 116 0))))) in 0 < l → 32 ≤ l
-letter true b c d e f x h some = h refl
-letter false true c d e f x h some = omega arith
-letter false false true d e f x h some = omega arith
-letter false false false true e f x h some = omega arith
-letter false false false false true f x h some = omega arith
-letter false false false false false true x h some = omega arith
-letter false false false false false false x h some = absurd (omega arith)
+letter a b c d e f x h some = grind (arith, common_steps)
 
 either : (x : ℕ) → ((x == 34) ≡ true) ⊎ ((x == 92) ≡ true) → 32 ≤ x
-either x (inl e) = omega (arith, eqb-true x 34 e)
-either x (inr e) = omega (arith, eqb-true x 92 e)
+either x which = grind (arith, common_steps)
 
 escaped : (t u : Bool) (l x : ℕ) → (t ≡ true → 32 ≤ l) → (u ≡ false → 32 ≤ x)
     → plain (cond t (92 ∷ l ∷ []) (cond u (92 ∷ 117 ∷ 48 ∷ 48 ∷ digit_char (x / 16) ∷ digit_char (x % 16) ∷ []) (x ∷ []))) ≡ true
-escaped true u l x h k = more l [] (h refl) refl
-escaped false true l x h k = more (digit_char (x / 16)) (digit_char (x % 16) ∷ []) (grind arith) (more (digit_char (x % 16)) [] (grind arith) refl)
-escaped false false l x h k = more x [] (k refl) refl
+escaped t u l x h k = grind (arith, more)
 
 -- an escaped byte is plain
 plain-escape_byte : (x : ℕ) → plain (escape_byte x) ≡ true
 unfolding escape_byte
-plain-escape_byte x =
-    escaped (nat_lt 0 (escape_letter x)) (nat_lt x 32) (escape_letter x) x
-    (λ h. letter ((x == 34) || (x == 92)) (x == 8) (x == 12) (x == 10) (x == 13) (x == 9) x (λ e. either x (or_cases _ _ e)) (ltb-true 0 (escape_letter x) h))
-    (λ h. ltb-false x 32 h)
+plain-escape_byte x = search (rules, escaped, letter, either)
 
 plain-escape : (s : List ℕ) → plain (escape s) ≡ true
 plain-escape [] = refl
@@ -70,12 +58,10 @@ plain-number_text (negative (negsuc n)) h = plain-digits (decimal (suc n)) (deci
 plain-number_text n h = absurd h
 
 plain-comma_if : (later : Bool) → plain (comma_if later) ≡ true
-plain-comma_if true = refl
-plain-comma_if false = refl
+plain-comma_if later = grind (arith, common_steps)
 
 plain-boolean : (b : Bool) → plain (token_text (Token.boolean b)) ≡ true
-plain-boolean true = refl
-plain-boolean false = refl
+plain-boolean b = grind (arith, common_steps)
 
 mutual
   -- the text of a value of whole numbers is plain

@@ -1,11 +1,11 @@
 -- An entry that fits reads back from its own text.
-use Rattle.std.proofs.{Common.{◌≡◌, ℕ, suc, ◌^◌, ◌<◌, ◌≤◌, max, negsuc, List, [], ◌∷◌, false, Option, Some, None, option_map, option_and_then, Less, Greater, nat_cmp, codes, refl, sym, ap, ap₂, subst, inl, inr, ◌⊎◌, ◌∙◌, arith, append-nil, lt-ltb}, lemmas.{Cmp.{nat_list_cmp_total}, Bool.{cases_eq}}}
+use Rattle.std.proofs.{lemmas.{Grind.{common_steps}, Cmp.{nat_list_cmp_total}, Bool.{cases_eq}}, Common.{rules, ◌≡◌, ℕ, suc, ◌^◌, ◌<◌, ◌≤◌, max, negsuc, List, [], ◌∷◌, false, Option, Some, None, option_map, option_and_then, Less, Greater, nat_cmp, codes, refl, sym, ap, ap₂, subst, inl, inr, ◌⊎◌, ◌∙◌, arith, append-nil, lt-ltb}}
 use Rattle.std.specs.{Cmp.Lexicographic.{slice_cmp}, Ordering.{ordering_reverse}, Fmt.{signed_decimal, digits}}
 use Rattle.json.specs.{Print.{IsNumber}, Token.{Token}, Lex.{tokens}}
 use Rattle.json.proofs.{OnLiterals.{json_on_literals}, Printed.{Tokens.{tokens-print}, Trees.{value-json_tokens, ArePrintable-json_tokens}, Decimals.{IsNumber-decimal, IsNumber-signed_decimal}}}
 use Rattle.json.specs.Json as json
 use Rattle.json.specs.Tree as tree
-use Rattle.serde_json.specs.{Data.{Num, unsigned, negative, float, Data, number, string, array, object, Items, no_items, item, Members, no_members, member, put, depth, items_depth, members_depth}, Find.{is_float}, Read.{number_of, of_json, of_items, of_members, read, max_depth}, Written.{number_text, outline, items_outline, members_outline, compact_text, has_float, items_have_float, members_have_float}}
+use Rattle.serde_json.specs.{Data.{Num, unsigned, negative, Data, number, string, array, object, Items, no_items, item, Members, no_members, member, put, depth, items_depth, members_depth}, Find.{is_float}, Read.{number_of, of_json, of_items, of_members, read, max_depth}, Written.{number_text, outline, items_outline, members_outline, compact_text, has_float, items_have_float, members_have_float}}
 use Rattle.serde_json.proofs.{Numbers.{number_of-decimal, number_of-negative}, Texts.{print-outline}}
 use Rattle.cacache_entry.specs.{Entry.{Entry, text_or_null, byte_items, bytes_or_null, members_of, text_of}, EntryTexts.{text_or_none, bytes_of, bytes_or_none, entry_read, read_entry}, FittingEntries.{EachIsByte, AreBytes, AreAbove, IsOrdered, ItemsAreOrdered, MembersAreOrdered, IsWholeNumber, IsWhole, ItemsAreWhole, MembersAreWhole, IsEntry, IsWritable}}
 
@@ -68,9 +68,7 @@ read-compact_text d numbers shallow =
 -- ---- a value with its names in order is what its outline stands for
 
 number_of-text : (n : Num) → IsWholeNumber n → number_of (number_text n) ≡ Some n
-number_of-text (unsigned n) h = number_of-decimal n h
-number_of-text (negative (negsuc n)) h = number_of-negative n h
-number_of-text n h = absurd h
+number_of-text n h = grind (arith, number_of-decimal, number_of-negative)
 
 abbrev join : Members → Members → Members
 join no_members ns = ns
@@ -134,20 +132,17 @@ mutual
 -- ---- an entry
 
 text_or_none-text_or_null : (o : Option (List ℕ)) → text_or_none (text_or_null o) ≡ Some o
-text_or_none-text_or_null None = refl
-text_or_none-text_or_null (Some s) = refl
+text_or_none-text_or_null o = grind (arith, common_steps)
 
 bytes_of-byte_numbers : (bs : List ℕ) → EachIsByte bs → bytes_of (byte_items bs) ≡ Some bs
 bytes_of-byte_numbers [] h = refl
 bytes_of-byte_numbers (b ∷ bs) h = rw (lt-ltb b 256 h.0) (rw (bytes_of-byte_numbers bs h.1) refl)
 
 bytes_or_none-bytes_or_null : (o : Option (List ℕ)) → AreBytes o → bytes_or_none (bytes_or_null o) ≡ Some o
-bytes_or_none-bytes_or_null None h = refl
-bytes_or_none-bytes_or_null (Some bs) h = ap (option_map Some) (bytes_of-byte_numbers bs h)
+bytes_or_none-bytes_or_null o h = grind (arith, bytes_of-byte_numbers)
 
 is_float-IsWhole : (n : Num) → IsWholeNumber n → is_float n ≡ false
-is_float-IsWhole (float x) h = absurd h
-is_float-IsWhole n h = refl
+is_float-IsWhole n h = grind (arith, common_steps)
 
 mutual
   pub has_float-IsWhole : (d : Data) → IsWhole d → has_float d ≡ false
@@ -181,12 +176,10 @@ IsOrdered-bytes_or_null None = tt
 IsOrdered-bytes_or_null (Some bs) = ItemsAreOrdered-byte_numbers bs
 
 IsWhole-text_or_null : (o : Option (List ℕ)) → IsWhole (text_or_null o)
-IsWhole-text_or_null None = tt
-IsWhole-text_or_null (Some s) = tt
+IsWhole-text_or_null o = grind (arith, common_steps)
 
 IsOrdered-text_or_null : (o : Option (List ℕ)) → IsOrdered (text_or_null o)
-IsOrdered-text_or_null None = tt
-IsOrdered-text_or_null (Some s) = tt
+IsOrdered-text_or_null o = grind (arith, common_steps)
 
 -- the numbers of an entry's members are all whole
 pub MembersAreWhole-members_of : (e : Entry) → IsEntry e → IsWritable e → MembersAreWhole (members_of e)
@@ -210,6 +203,7 @@ of_members-members_of e h f =
       of_json-outline (bytes_or_null e.raw_metadata) (IsWhole-bytes_or_null e.raw_metadata h.raw_metadata) (IsOrdered-bytes_or_null e.raw_metadata),
     ) refl
 
+-- the members of an entry make it again
 entry_of-members_of : (e : Entry) → IsEntry e → IsWritable e
     → entry_read (object (member (codes "integrity") (text_or_null e.integrity)
     (member (codes "key") (string e.key)
@@ -217,12 +211,7 @@ entry_of-members_of : (e : Entry) → IsEntry e → IsWritable e
     (member (codes "raw_metadata") (bytes_or_null e.raw_metadata)
     (member (codes "size") (number (unsigned e.size))
     (member (codes "time") (number (unsigned e.time)) no_members))))))) ≡ Some e
-entry_of-members_of e h f =
-    rw (
-      text_or_none-text_or_null e.integrity,
-      bytes_or_none-bytes_or_null e.raw_metadata h.raw_metadata,
-      has_float-IsWhole e.metadata f.whole,
-    ) refl
+entry_of-members_of e h f = search (rules, text_or_none-text_or_null, bytes_or_none-bytes_or_null, has_float-IsWhole)
 
 -- an entry that fits reads back from its own text as itself
 pub read_entry-text_of : (e : Entry) → IsEntry e → IsWritable e → read_entry (text_of e) ≡ Some e

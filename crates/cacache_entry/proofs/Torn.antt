@@ -1,7 +1,7 @@
 -- A proper beginning of an object's text reads as nothing.
-use Rattle.std.proofs.{Common.{◌≡◌, ℕ, zero, suc, ◌/◌, ◌%◌, ◌<◌, ◌≤◌, negsuc, Bool, true, false, cond, List, [], ◌∷◌, ◌++◌, Option, Some, None, length, take, decimal, refl, sym, ap, ap₂, ◌∙◌, subst, arith, append-nil, inl, inr, ◌⊎◌}, lemmas.{Bool.{ne_eqb, ltb-true, true≢false}, Fmt.{decimal_is_IsNumeral}}}
+use Rattle.std.proofs.{lemmas.{Grind.{common_steps}, Bool.{ne_eqb, ltb-true, true≢false}, Fmt.{decimal_is_IsNumeral}}, Common.{rules, ◌≡◌, ℕ, zero, suc, ◌/◌, ◌%◌, ◌<◌, ◌≤◌, negsuc, Bool, true, false, cond, List, [], ◌∷◌, ◌++◌, Option, Some, None, length, take, decimal, refl, sym, ap, ap₂, ◌∙◌, subst, arith, append-nil, inl, inr, ◌⊎◌}}
 use Rattle.std.specs.{Prelude.{⊤, nat_lt}, Char.{digit_char, digit_value}, Str.Parse.{AllDigits}}
-use Rattle.json.specs.{Token.{Token}, Word.{is_operator, is_space}, Lex.{Class, operator, space, other, class, Mode, between, in_word, in_string, tokens}, Print.{token_text, escape_letter, escape_byte, escape, quoted}, Tree.{json_tokens}}
+use Rattle.json.specs.{Token.{Token}, Lex.{Class, other, class, Mode, between, in_word, in_string, tokens}, Print.{token_text, escape_letter, escape_byte, escape, quoted}, Tree.{json_tokens}}
 use Rattle.json.proofs.{OnLiterals.{json_on_literals}, Unique.Spelling.{value-json_tokens_back}}
 use Rattle.json.specs.Json as json
 use Rattle.serde_json.specs.{Data.{Num, unsigned, negative, Data, null, boolean, number, string, array, object, Items, no_items, item, Members, no_members, member}, Read.{read, max_depth}, Written.{number_text, comma_if, compact_text, items_text, members_text}}
@@ -49,12 +49,7 @@ then k l i m n o xs ys h g =
 
 -- a byte other than the quote and the backslash stays in the string
 plain_class : (x : ℕ) → (x ≡ 34 → ⊥) → (x ≡ 92 → ⊥) → next in_string (class x) ≡ in_string
-plain_class x q b = rw (ne_eqb x 34 q, ne_eqb x 92 b) (inside (is_operator x) (is_space x))
-  where
-    inside : (o s : Bool) → next in_string (cond o operator (cond s space other)) ≡ in_string
-    inside true s = refl
-    inside false true = refl
-    inside false false = refl
+plain_class x q b = search (rules, next)
 
 module _ (k : ℕ) (some : 1 ≤ k) where
   stay_string : (x : ℕ) → (x ≡ 34 → ⊥) → (x ≡ 92 → ⊥) → Leads k in_string (x ∷ []) k in_string
@@ -106,8 +101,7 @@ At true m = Rests m
 At false m = m ≡ between
 
 At-Rests : (later : Bool) (m : Mode) → At later m → Rests m
-At-Rests true m h = h
-At-Rests false m h = inl h
+At-Rests later m h = grind (arith, common_steps)
 
 -- a value may end in either of the two modes
 abbrev Goes : ℕ → Mode → List ℕ → Type 0
@@ -134,8 +128,7 @@ digit_class d h =
     ) refl
 
 word_byte : (k : ℕ) (m : Mode) (c : Class) (x : ℕ) → Rests m → c ≡ other → (next m c ≡ in_word) × (after_byte k m c x ≡ k)
-word_byte k m c x (inl e) h = rw (e, h) (refl, refl)
-word_byte k m c x (inr e) h = rw (e, h) (refl, refl)
+word_byte k m c x which h = grind (arith, common_steps)
 
 Goes-digits : (k : ℕ) (m : Mode) (ds : List ℕ) → 1 ≤ k → Rests m → AllDigits 10 ds → Goes k m ds
 Goes-digits k m [] some r h = (m, r, record { stays = tt; level = refl; mode = refl })
@@ -154,21 +147,16 @@ Goes-number k (negative (negsuc n)) some h =
 Goes-number k n some h = absurd h
 
 Goes-boolean : (k : ℕ) (b : Bool) → 1 ≤ k → Goes k between (token_text (Token.boolean b))
-Goes-boolean k true some = (in_word, inr refl, record { stays = (some, (some, (some, (some, tt)))); level = refl; mode = refl })
-Goes-boolean k false some = (in_word, inr refl, record { stays = (some, (some, (some, (some, (some, tt))))); level = refl; mode = refl })
+Goes-boolean k b some = grind (arith, level, mode)
 
 Leads-comma : (k : ℕ) (later : Bool) (m : Mode) → 1 ≤ k → At later m → Leads k m (comma_if later) k between
-Leads-comma k true m some (inl e) = rw e (record { stays = (some, tt); level = refl; mode = refl })
-Leads-comma k true m some (inr e) = rw e (record { stays = (some, tt); level = refl; mode = refl })
-Leads-comma k false m some e = rw e (record { stays = tt; level = refl; mode = refl })
+Leads-comma k later m some e = grind (arith, level, mode)
 
 closes_array : (k : ℕ) (m : Mode) → Rests m → Leads (suc k) m (93 ∷ []) k between
-closes_array k m (inl e) = rw e (record { stays = (omega arith, tt); level = omega arith; mode = refl })
-closes_array k m (inr e) = rw e (record { stays = (omega arith, tt); level = omega arith; mode = refl })
+closes_array k m which = grind (arith, level, mode)
 
 closes_object : (k : ℕ) (m : Mode) → Rests m → Leads (suc k) m (125 ∷ []) k between
-closes_object k m (inl e) = rw e (record { stays = (omega arith, tt); level = omega arith; mode = refl })
-closes_object k m (inr e) = rw e (record { stays = (omega arith, tt); level = omega arith; mode = refl })
+closes_object k m which = grind (arith, level, mode)
 
 mutual
   -- the text of a value returns to its level

@@ -1,10 +1,10 @@
 -- A value that a text reads as has its names in order and its numbers in range.
-use Rattle.std.proofs.{Common.{◌≡◌, ℕ, zero, suc, ◌^◌, ◌<◌, ◌≤◌, pos, negsuc, List, Bool, true, false, cond, Option, Some, None, option_map, option_and_then, Ordering, Less, Equal, Greater, nat_cmp, refl, ap, ◌∙◌, subst, arith}, lemmas.{Bool.{and_parts, or_parts, ltb-true, leb-true}, Cmp.{nat_list_cmp_total}}}
-use Rattle.std.specs.{Prelude.{⊤, nat_le, ◌==◌, slice_index, drop, IsUtf8}, Cmp.Lexicographic.{slice_cmp}, Ordering.{match_ordering, ordering_reverse}}
-use Rattle.fast_float.specs.Text.{minus, Parts, scan, digits_of, with_sign}
+use Rattle.std.proofs.{lemmas.{Grind.{common_steps}, Bool.{or_parts}, Cmp.{nat_list_cmp_total}}, Common.{◌≡◌, ℕ, ◌^◌, ◌<◌, ◌≤◌, pos, negsuc, List, Bool, true, false, cond, Option, Some, None, option_map, option_and_then, Ordering, Less, Equal, Greater, nat_cmp, refl, ap, ◌∙◌, subst, arith}}
+use Rattle.std.specs.{Prelude.{⊤, ◌==◌, slice_index, drop, IsUtf8}, Cmp.Lexicographic.{slice_cmp}, Ordering.{match_ordering, ordering_reverse}}
+use Rattle.fast_float.specs.Text.{minus, Parts, scan, with_sign}
 use Rattle.json.{specs.Lex.{tokens}, proofs.Printed.Utf8.{IsUtf8-are_ascii}}
 use Rattle.json.specs.Json as json
-use Rattle.serde_json.specs.{Data.{Num, unsigned, negative, float, Data, null, boolean, number, string, array, object, Items, no_items, item, Members, no_members, member, put}, Find.{is_float}, Read.{is_integer, float_of, number_from, number_of, of_json, of_items, of_members, read, max_depth}, Written.{compact_text, has_float, items_have_float, members_have_float}}
+use Rattle.serde_json.specs.{Data.{Num, unsigned, negative, float, Data, null, boolean, number, string, array, object, Items, no_items, item, Members, no_members, member, put}, Find.{is_float}, Read.{float_of, number_from, number_of, of_json, of_items, of_members, read, max_depth}, Written.{compact_text, has_float, items_have_float, members_have_float}}
 use Rattle.cacache_entry.specs.FittingEntries.{IsJson, AreAbove, IsOrdered, ItemsAreOrdered, MembersAreOrdered, IsWholeNumber, IsWhole, ItemsAreWhole, MembersAreWhole}
 
 abbrev Given : {A : Type 0} → (A → Type 0) → Option A → Type 0
@@ -12,23 +12,18 @@ Given P None = ⊤
 Given P (Some a) = P a
 
 Given-map : {A B : Type 0} (P : A → Type 0) (Q : B → Type 0) (h : A → B) → ((a : A) → P a → Q (h a)) → (o : Option A) → Given P o → Given Q (option_map h o)
-Given-map P Q h k None x = tt
-Given-map P Q h k (Some a) x = k a x
+Given-map P Q h k o x = grind (arith, common_steps)
 
 Given-and_then : {A B : Type 0} (P : A → Type 0) (Q : B → Type 0) (h : A → Option B) → ((a : A) → P a → Given Q (h a)) → (o : Option A) → Given P o → Given Q (option_and_then h o)
-Given-and_then P Q h k None x = tt
-Given-and_then P Q h k (Some a) x = k a x
+Given-and_then P Q h k o x = grind (arith, common_steps)
 
 always : {A : Type 0} (o : Option A) → Given (λ _. ⊤) o
-always None = tt
-always (Some a) = tt
+always o = grind (arith, common_steps)
 
 -- ---- names in order
 
 AreAbove-match_ordering : (o : Ordering) (k : List ℕ) (a b c : Members) → AreAbove k a → AreAbove k b → AreAbove k c → AreAbove k (match_ordering o a b c)
-AreAbove-match_ordering Less k a b c p q r = p
-AreAbove-match_ordering Equal k a b c p q r = q
-AreAbove-match_ordering Greater k a b c p q r = r
+AreAbove-match_ordering o k a b c p q r = grind (arith, common_steps)
 
 AreAbove-put : (l k : List ℕ) (d : Data) (ms : Members) → slice_cmp nat_cmp l k ≡ Less → AreAbove l ms → AreAbove l (put k d ms)
 AreAbove-put l k d no_members h p = (h, tt)
@@ -74,8 +69,7 @@ abbrev parsed : List ℕ → Option json.Json
 parsed text = option_and_then (λ p. json.if_last p.0 p.1) (json.value max_depth (tokens text))
 
 from_json : (P : Data → Type 0) → ((j : json.Json) → Given P (of_json j)) → (o : Option json.Json) → Given P (option_and_then of_json o)
-from_json P f None = tt
-from_json P f (Some j) = f j
+from_json P f o = grind (arith, common_steps)
 
 -- a value that a text reads as has each name once, in order
 pub IsOrdered-read : (text : List ℕ) (d : Data) → read text ≡ Some d → IsOrdered d
@@ -107,41 +101,30 @@ abbrev mutual
   MembersInRange (member k d ms) = InRange d × MembersInRange ms
 
 finite : (b : Bool) (x : Num) → IsRanged x → Given IsRanged (cond b (Some x) None)
-finite true x h = h
-finite false x h = tt
+finite b x h = grind (arith, common_steps)
 
 IsRanged-float_of : (sign : Bool) (p : Parts) → Given IsRanged (float_of sign p)
 IsRanged-float_of sign p = finite _ (float _) tt
 
 picked : (b : Bool) (x : Num) (o : Option Num) → (b ≡ true → IsRanged x) → Given IsRanged o → Given IsRanged (cond b (Some x) o)
-picked true x o h g = h refl
-picked false x o h g = g
+picked b x o h g = grind (arith, common_steps)
 
 below_zero : (n : ℕ) → 0 < n → n ≤ 2 ^ 63 → IsRanged (negative (with_sign true n))
-below_zero zero some h = absurd (omega arith)
-below_zero (suc n) some h = omega arith
+below_zero n some h = grind (arith, common_steps)
 
+-- a number that was read is in range, whatever its sign
 IsRanged-number_from : (sign : Bool) (p : Parts) → Given IsRanged (number_from sign p)
-IsRanged-number_from false p = picked _ (unsigned (digits_of p)) _ (λ e. ltb-true _ _ (and_parts (is_integer p) _ e).1) (IsRanged-float_of false p)
-IsRanged-number_from true p =
-    picked _ (negative (with_sign true (digits_of p))) _
-    (λ e.
-    let some = and_parts _ (nat_le (digits_of p) (2 ^ 63)) e in
-    below_zero (digits_of p) (ltb-true _ _ (and_parts (is_integer p) _ some.0).1) (leb-true _ _ some.1))
-    (IsRanged-float_of true p)
+IsRanged-number_from sign p = grind (arith, picked, below_zero)
 
 by_sign : (b : Bool) (x y : Option Num) → Given IsRanged x → Given IsRanged y → Given IsRanged (cond b x y)
-by_sign true x y g h = g
-by_sign false x y g h = h
+by_sign b x y g h = grind (arith, common_steps)
 
 IsRanged-number_of : (s : List ℕ) → Given IsRanged (number_of s)
 unfolding number_of
 IsRanged-number_of s = by_sign (slice_index s 0 == minus) (number_from true (scan (drop 1 s))) (number_from false (scan s)) (IsRanged-number_from true (scan (drop 1 s))) (IsRanged-number_from false (scan s))
 
 MembersInRange-match_ordering : (o : Ordering) (a b c : Members) → MembersInRange a → MembersInRange b → MembersInRange c → MembersInRange (match_ordering o a b c)
-MembersInRange-match_ordering Less a b c p q r = p
-MembersInRange-match_ordering Equal a b c p q r = q
-MembersInRange-match_ordering Greater a b c p q r = r
+MembersInRange-match_ordering o a b c p q r = grind (arith, common_steps)
 
 MembersInRange-put : (k : List ℕ) (d : Data) (ms : Members) → InRange d → MembersInRange ms → MembersInRange (put k d ms)
 MembersInRange-put k d no_members fine h = (fine, tt)
@@ -166,9 +149,7 @@ mutual
       Given-and_then InRange MembersInRange _ (λ d x. MembersInRange-of_members ms (put k d found) (MembersInRange-put k d found x h)) (of_json j) (InRange-of_json j)
 
 no_float : (n : Num) → IsRanged n → is_float n ≡ false → IsWholeNumber n
-no_float (negative (pos n)) h e = absurd h
-no_float (float x) h e = absurd cc
-no_float n h e = h
+no_float n h e = grind (arith, common_steps)
 
 mutual
   IsWhole-InRange : (d : Data) → InRange d → has_float d ≡ false → IsWhole d

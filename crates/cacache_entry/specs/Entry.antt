@@ -1,8 +1,8 @@
--- What an index entry is, its text, and the line that holds it.
+-- What an index entry is, its text and the parts of that, and the line that holds it.
 use Rattle.std.specs.Prelude.{ℕ, Bool, if◌then◌else◌, List, [], ◌∷◌, ◌++◌, codes, decimal, Option, Some, None}
 use Rattle.json.specs.Print.{quoted}
 use Rattle.serde_json.specs.{Data.{unsigned, Data, null, number, string, array, object, Items, no_items, item, Members, no_members, member}, Written.{compact_text}}
-use Rattle.cacache_core.specs.Digests.{sha256_hex}
+use Rattle.cacache_core.specs.Integrity.{sha256_hex}
 
 -- what a line of a bucket says; an entry without an integrity is a tombstone
 pub record Entry : Type 0 where
@@ -66,3 +66,17 @@ closing durable = if durable then 10 ∷ [] else []
 -- the line of an entry, as its commit appends it
 abbrev pub closed_line : Bool → Entry → List ℕ
 closed_line durable e = line_of e ++ closing durable
+
+-- ---- the text of an entry without metadata, cut into its parts
+
+-- a key and an integrity, as an entry's text begins with them, and the rest
+abbrev pub texts_then : List ℕ → Option (List ℕ) → List ℕ → List ℕ
+texts_then key integrity rest =
+    codes "{\"key\":" ++ (quoted key
+    ++ (codes ",\"integrity\":" ++ (compact_text (text_or_null integrity) ++ rest)))
+
+-- a time and a size, as they follow the integrity, each with its comma, and the rest
+abbrev pub numbers_then : ℕ → ℕ → List ℕ → List ℕ
+numbers_then time size rest =
+    codes ",\"time\":" ++ (decimal time
+    ++ 44 ∷ (codes "\"size\":" ++ (decimal size ++ 44 ∷ rest)))

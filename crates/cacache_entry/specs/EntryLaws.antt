@@ -1,7 +1,7 @@
 -- Which entries can be written, what lines add to a bucket, and what a lookup finds.
 use Rattle.std.specs.Prelude.{◌≡◌, ◌<◌, ◌≤◌, ◌^◌, ◌↔◌, ℕ, length, take, List, [], ◌∷◌, ◌++◌, Option, Some, None, false, IsUtf8}
 use Rattle.serde_json.specs.{Data.{null, depth}, Read.{read}, Written.{has_float}}
-use Rattle.cacache_entry.specs.{Entry.{Entry, text_of, line_of}, FittingEntries.{IsUtf8IfAny, IsEntry, IsWritable, cause_of}, Bucket.{entries_of}, Latest.{Found, answer_to, latest, NoneAnswers, pieces_read}}
+use Rattle.cacache_entry.specs.{Entry.{Entry, text_of, line_of}, FittingEntries.{IsUtf8IfAny, IsEntry, IsWritable, cause_of}, Bucket.{entries_of, Found, answer_to, latest, NoneAnswers, pieces_read}}
 
 -- ---- entries
 

@@ -1,9 +1,7 @@
 pub mod Entry
 pub mod Tokens
 pub mod EntryTexts
-pub mod EntryParts
 pub mod FittingEntries
 pub mod Bucket
-pub mod Latest
 pub mod View
 pub mod EntryLaws

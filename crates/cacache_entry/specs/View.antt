@@ -2,7 +2,7 @@
 use Rattle.std.specs.Prelude.{◌≡◌, ℕ, List, ◌++◌, codes, Some, option_map, string_bytes}
 use Rattle.serde_json.specs.View.{view}
 use Rattle.cacache_core.specs.declared.errors.Error.{Error, TheVariants.{SerdeError, OutOfMemory}}
-use Rattle.cacache_entry.specs.{Entry.{Entry}, FittingEntries.{cause_of}, Latest.{Found}, declared.metadata.{SerializableMetadata.{SerializableMetadata}, Metadata.{Metadata}}}
+use Rattle.cacache_entry.specs.{Entry.{Entry}, FittingEntries.{cause_of}, Bucket.{Found}, declared.metadata.{SerializableMetadata.{SerializableMetadata}, Metadata.{Metadata}}}
 
 -- the entry that a value stands for
 abbrev pub entry_view : SerializableMetadata → Entry

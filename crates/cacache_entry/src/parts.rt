@@ -3,7 +3,7 @@
 ghost use Rattle.std.specs.Prelude.{◌≡◌, ◌∷◌, ◌++◌, ◌<◌, ◌^◌, IsTrue, IfSome, decimal, option_map};
 ghost use Rattle.json.specs.Print.{escape, quoted as quoted_text};
 ghost use Rattle.serde_json.specs.Written.{compact_text};
-ghost use Rattle.cacache_entry.specs.{Entry.{piece_of, text_of, text_or_null}, EntryLaws.{bare_entry}, EntryParts.{texts_then, numbers_then}};
+ghost use Rattle.cacache_entry.specs.{Entry.{piece_of, text_of, text_or_null, texts_then, numbers_then}, EntryLaws.{bare_entry}};
 
 use crate::read::is_digest_of;
 use memchr::memchr;

@@ -1,6 +1,6 @@
 //! The entries of a bucket.
 ghost use Rattle.std.specs.{Prelude.{◌≡◌, [], ◌∷◌, ◌++◌, IfOk, IfErr, MatchOption, OnOk, map, option_map, IsTrue, ◌↔◌}, Option.{option_to_list}};
-ghost use Rattle.cacache_core.specs.{Digests.{sha256_hex}, declared.errors.Error.TheVariants.{OutOfMemory}};
+ghost use Rattle.cacache_core.specs.{Integrity.{sha256_hex}, declared.errors.Error.TheVariants.{OutOfMemory}};
 ghost use Rattle.cacache_entry.specs.{Bucket.{cut, CutsAt, without_cr as less_cr, entry_of_piece, entries_of}, View.{entry_view}};
 
 use crate::metadata::SerializableMetadata;

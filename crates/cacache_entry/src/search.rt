@@ -1,7 +1,7 @@
 //! The lookup of a key, which starts at the end of a bucket.
 ghost use Rattle.std.specs.Prelude.{◌≡◌, ◌<◌, ◌+◌, ◌^◌, IfOk, IfErr, option_map, option_and_then, string_bytes};
 ghost use Rattle.cacache_core.specs.declared.errors.Error.TheVariants.{OutOfMemory};
-ghost use Rattle.cacache_entry.specs.{Bucket.{without_cr as less_cr, entry_of_piece, entries_of}, Latest.{found_of, answer_of_integrity, answer_of, answer_to, latest as latest_of, pieces_read}, View.{entry_view, found_view}};
+ghost use Rattle.cacache_entry.specs.{Bucket.{without_cr as less_cr, entry_of_piece, entries_of, found_of, answer_of_integrity, answer_of, answer_to, latest as latest_of, pieces_read}, View.{entry_view, found_view}};
 
 use crate::metadata::{Metadata, SerializableMetadata};
 use crate::read::{piece_entry, without_cr};

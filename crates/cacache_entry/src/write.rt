@@ -2,7 +2,7 @@
 ghost use Rattle.std.specs.Prelude.{◌≡◌, [], ◌∷◌, ◌++◌, ◌≤◌, ◌<◌, ◌^◌, None, IfOk, IfErr, OnOk, false, length, take, drop, decimal, string_bytes, option_map};
 ghost use Rattle.json.specs.{Print.{quoted}, Token.{begin_array}};
 ghost use Rattle.serde_json.specs.{Data.{depth}, Read.{max_depth}, Written.{has_float, compact_text}, View.{view}};
-ghost use Rattle.cacache_core.specs.Digests.{sha256_hex};
+ghost use Rattle.cacache_core.specs.Integrity.{sha256_hex};
 ghost use Rattle.cacache_entry.specs.{Entry.{bytes_or_null, front_of, line_of, text_of, text_or_null}, FittingEntries.{AreBytes, EachIsByte, IsJson, IsEntry, IsWritable, cause_of as cause_of_entry}, Tokens.{byte_tokens}, View.{entry_view, IsRefusal, refusal_text}};
 
 use crate::limits::{is_whole, nests_within};

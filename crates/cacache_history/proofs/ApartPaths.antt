@@ -1,9 +1,9 @@
 -- Paths that don't lie below one another.
-use Rattle.std.proofs.{Common.{rules, ◌≡◌, ◌⊎◌, inl, inr, ℕ, Bool, true, false, cond, List, [], ◌∷◌, ◌++◌, length, bytes_eq, refl, sym, ap, ◌∙◌, arith, append_assoc, length-append}, lemmas.Slice.Eq.{bytes_eq-Decides}}
-use Rattle.cacache_core.specs.PathNames.{Names}
+use Rattle.std.proofs.Common.{rules, ◌≡◌, ◌⊎◌, inl, inr, ℕ, Bool, true, false, cond, List, [], ◌∷◌, ◌++◌, length, bytes_eq, refl, sym, ap, ◌∙◌, arith, append_assoc, length-append}
+use Rattle.cacache_core.specs.Paths.{Names}
 use Rattle.cacache_store.specs.declared.store.answer.Name.{Name}
 use Rattle.cacache_history.{specs.Setup.{are_apart}, proofs.{Listings.ToldFolders.{AreDistinct}, Each.{each_join, each_weaker, Each}}}
-use Rattle.cacache_value.proofs.KindsApart.{bytes_same}
+use Rattle.cacache_value.proofs.PathKinds.{bytes_same}
 
 -- ---- paths that are apart
 

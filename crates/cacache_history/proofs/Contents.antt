@@ -1,11 +1,9 @@
 pub mod Digests
 pub mod Carrying
 pub mod OpenedContents
-pub mod Exporting
 pub mod Deeds
 pub mod Linked
 pub mod Removals
 pub mod Commits
 pub mod Righted
-pub mod PutLinks
 pub mod LinkedContents

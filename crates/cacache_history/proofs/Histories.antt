@@ -1,9 +1,7 @@
 pub mod Holding
 pub mod Values
-pub mod Runs
 pub mod ShownTurns
 pub mod TurnReplies
-pub mod Turned
 pub mod ReadingCalls
 pub mod Places
 pub mod PlacedAnswers

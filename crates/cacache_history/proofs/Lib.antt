@@ -1,7 +1,6 @@
 pub mod Each
 pub mod StepActs
 pub mod Contents
-pub mod Proper
 pub mod Entries
 pub mod Syncing
 pub mod Histories

@@ -9,9 +9,7 @@ pub mod Ending
 pub mod CommitMoves
 pub mod PutMoves
 pub mod CommitPlaces
-pub mod StoodLinks
 pub mod DoneSyncs
-pub mod AtMoves
 pub mod DurableEntries
 pub mod LineParts
 pub mod GrownBuckets

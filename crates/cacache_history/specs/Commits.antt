@@ -1,14 +1,14 @@
 -- What a commit does to contents and buckets: nothing; its content; or its content and then its
 -- entry. And what a removal removes.
 use Rattle.std.specs.Prelude.{◌≡◌, ◌⊎◌, ◌<◌, ◌^◌, ℕ, true, List, [], ◌∷◌, ◌++◌, Option, None, Some, Ok, length}
-use Rattle.cacache_core.specs.PathNames.{Names, names_of}
+use Rattle.cacache_core.specs.Paths.{Names, names_of}
 use Rattle.cacache_store.specs.declared.store.step.Step.TheVariants as steps
 use Rattle.cacache_store.specs.declared.store.answer.Answer.TheVariants as answers
 use Rattle.cacache_store.specs.Plain.{PlainStep, PlainAnswer}
-use Rattle.cacache_entry.specs.Latest.{Found}
-use Rattle.cacache_calls.specs.{declared.{command.Command.{Command}, reply.Reply.{Reply, TheVariants.{Refused}}, carried.Commit.{Commit}, target.Target.{Target}}, StepPaths.{content_path, bucket_path}, State.{Site, Insertion}, Inserting.{insertion, deletion}, Storing.{insertion_of, put_commit}, Linking.{commit_for, link_target}, Replies.{bucket_shown, lookup}, Runs.{Moves}, Verifying.{ReadsWhole}}
+use Rattle.cacache_entry.specs.Bucket.{Found}
+use Rattle.cacache_calls.specs.{declared.{command.Command.{Command}, reply.Reply.{Reply, TheVariants.{Refused}}, carried.Commit.{Commit}, target.Target.{Target}}, Steps.{content_path, bucket_path}, State.{Site, Insertion}, Inserting.{insertion, deletion}, Storing.{insertion_of, put_commit}, Linking.{commit_for, link_target}, Replies.{bucket_shown, lookup}, Runs.{Moves}, Verifying.{ReadsWhole}}
 use Rattle.cacache_calls.specs.declared.command.Command.TheVariants as commands
-use Rattle.cacache_value.specs.{Acts.{Act, Nothing, PutBytes, PutLink, AddEntries, Drop, MakeFolders, DropFolder, act_of}, Traces.{Move}}
+use Rattle.cacache_value.specs.Acts.{Act, Nothing, PutBytes, PutLink, AddEntries, Drop, MakeFolders, DropFolder, act_of, Move}
 use Rattle.cacache_history.specs.{Setup.{call_site}, History.{History, Turn, Call, Reaches}, Turns.{made_in}}
 
 -- ---- deeds

@@ -1,11 +1,11 @@
 -- The claim as a whole.
-use Rattle.cacache_history.specs.{Buckets.{BucketsAreOfKeys, IndexIsShallow, BucketsHoldOwn}, Commits.{CommitsAreCases}, AddedEntries.{EntriesNameContents, PutsLeaveContents}, History.{History, IsLegal}, LinkedContents.{LinksWereRight, LinksAreRight}, Lookups.{PlaceLaws}, ListingTurns.{ListingsReadValue}, TurnPlaces.{TurnsAreMoves, CallsAreRuns}, ReadingCalls.{ReadersDoNothing, ReadsAreVerified}, TurnReplies.{RepliesReadValue, RepliesHaveCauses}, Values.{ValueFollowsActs, BucketsOnlyGrow, ContentsStay, ContentsAreRight}}
+use Rattle.cacache_history.specs.{AddedEntries.{BucketsAreOfKeys, IndexIsShallow, BucketsHoldOwn, EntriesNameContents, PutsLeaveContents}, Commits.{CommitsAreCases}, History.{History, IsLegal}, LinkedContents.{LinksWereRight, LinksAreRight}, Lookups.{PlaceLaws}, ListingTurns.{ListingsReadValue}, Turns.{TurnsAreMoves, CallsAreRuns}, ReadingCalls.{ReadersDoNothing, ReadsAreVerified}, TurnReplies.{RepliesReadValue, RepliesHaveCauses}, Values.{ValueFollowsActs, BucketsOnlyGrow, ContentsStay, ContentsAreRight}}
 
 -- Over every interleaving of callers' store steps, with failed steps, short appends and callers
 -- stopped anywhere, lookups, reads and listings answer by one map of contents and one list of whole
--- entries per bucket; a commit puts nothing, its content, or its content and then its entry, the
--- last whenever it answers Ok; and whatever bytes the files hold, a verified read answers Ok only
--- with bytes that meet its integrity.
+-- entries per bucket; a commit puts nothing, its content, or its content and then its entry, and an
+-- Ok says that its content was put or found, and with a key its entry then added; and whatever
+-- bytes the files hold, a verified read answers Ok only with bytes that meet its integrity.
 pub record Headline (h : History) : Type 0 where
   -- each record may come at its place: any caller's next step, as the disk answers it there
   pub legal : IsLegal h
@@ -41,8 +41,8 @@ pub record Headline (h : History) : Type 0 where
   pub verified : ReadsAreVerified h
   -- a call that reads does nothing to the value
   pub readers : ReadersDoNothing h
-  -- a commit did nothing, put its content, or put its content and then its entry; a removal
-  -- removed at most its content, and with its key the key's bucket
+  -- a commit did nothing, put its content, or put its content and then its entry; an Ok says that
+  -- all of that is there; a removal removed at most its content, and with its key the key's bucket
   pub commits : CommitsAreCases h
   -- the entry that a commit added names a content that is there, unless a step removed it
   pub entries : EntriesNameContents h

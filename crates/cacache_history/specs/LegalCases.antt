@@ -5,10 +5,10 @@ use Rattle.sha1.specs.Sha1.{sha1}
 use Rattle.cacache_core.specs.declared.errors.Error.TheVariants.{OutOfMemory}
 use Rattle.cacache_store.specs.{declared.store.step.Step.TheVariants.{ReadAll}, Plain.{PlainStep}}
 use Rattle.cacache_disk.specs.{declared.luck.Luck.{Luck}, Tree.{bare}, Apply.{apply}}
-use Rattle.cacache_entry.specs.Latest.{Found}
-use Rattle.cacache_calls.specs.{declared.{command.{Command.{Command}, Source.{Source}, Export.{Export}, Link.{Link}}, reply.Reply.{Reply, TheVariants.{LookedUp, Refused}}}, Linking.{link_target}, StepPaths.{bucket_path}, Replies.{find_reply, bucket_shown}, Runs.{plain_reply}, State.{over}, Table.{wants, after}}
+use Rattle.cacache_entry.specs.Bucket.{Found}
+use Rattle.cacache_calls.specs.{declared.{command.{Command.{Command}, Source.{Source}, Export.{Export}, Link.{Link}}, reply.Reply.{Reply, TheVariants.{LookedUp, Refused}}}, Linking.{link_target}, Steps.{bucket_path}, Replies.{find_reply, bucket_shown}, Runs.{plain_reply}, State.{over}, Table.{wants, after}}
 use Rattle.cacache_calls.specs.declared.command.Command.TheVariants as commands
-use Rattle.cacache_history.specs.{declared.record.Record.{Record, TheVariants.{Began, Moved, Stopped}}, Setup.{call_site, may_export, is_outside}, History.{History, Call, Made, turn_of, now_at, IsLegal}, ShownTurns.{bucket_read}}
+use Rattle.cacache_history.specs.{declared.record.Record.{Record, TheVariants.{Began, Moved, Stopped}}, Setup.{call_site, may_export, is_outside}, History.{History, Call, Made, turn_of, now_at, IsLegal}, Turns.{bucket_read}}
 
 -- the record comes right after these
 abbrev pub Comes : History → List Record → Record → Type 0

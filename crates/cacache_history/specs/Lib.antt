@@ -2,13 +2,10 @@ pub mod Setup
 pub mod History
 pub mod Turns
 pub mod Values
-pub mod ShownTurns
 pub mod Commits
 pub mod AddedEntries
-pub mod Buckets
 pub mod ListingTurns
 pub mod TurnReplies
-pub mod TurnPlaces
 pub mod ReadingCalls
 pub mod LinkedContents
 pub mod Places

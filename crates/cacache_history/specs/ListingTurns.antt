@@ -1,13 +1,13 @@
 -- What a listing reads, and what it answers, by what the cache holds at the places of its turns.
 use Rattle.std.specs.Prelude.{◌≡◌, ◌⊎◌, ◌≤◌, ◌+◌, ◌||◌, ℕ, Bool, false, All, List, [], ◌∷◌, ◌++◌, Option, None, Some, Result, Ok, Err, length, take, nat_lt, if◌then◌else◌}
 use Rattle.sha1.specs.Sha1.{sha1}
-use Rattle.cacache_core.specs.{declared.errors.Error.TheVariants.{OutOfMemory}, Paths.{joined, bucket_names, index_area}, PathNames.{Names, IsProperName}}
+use Rattle.cacache_core.specs.{declared.errors.Error.TheVariants.{OutOfMemory}, Paths.{joined, bucket_names, index_area, Names, IsProperName}}
 use Rattle.cacache_store.specs.{declared.store.answer.Name.{Name}, Plain.{PlainStep}}
 use Rattle.cacache_store.specs.declared.store.step.Step.TheVariants as steps
-use Rattle.cacache_entry.specs.{Entry.{Entry}, Latest.{latest}}
-use Rattle.cacache_calls.specs.{declared.{answers.Refusal.{Refusal}, reply.Reply.{Reply, TheVariants.{Listed, Refused}}}, Answers.{names_in}, ListReplies.{by_folder, too_deep}, StepPaths.{bucket_path}, Runs.{plain_reply}, State.{Item}, Walking.{most}}
+use Rattle.cacache_entry.specs.{Entry.{Entry}, Bucket.{latest}}
+use Rattle.cacache_calls.specs.{declared.{answers.Refusal.{Refusal}, reply.Reply.{Reply, TheVariants.{Listed, Refused}}}, Answers.{names_in}, Replies.{by_folder, too_deep}, Steps.{bucket_path}, Runs.{plain_reply}, State.{Item}, Walking.{most}}
 use Rattle.cacache_calls.specs.declared.command.Command.TheVariants as commands
-use Rattle.cacache_history.specs.{Setup.{Setup}, History.{History, Turn, Call, Reaches}, ShownTurns.{held, entries_at, bucket_read, by_entries}, Turns.{EachTurn}}
+use Rattle.cacache_history.specs.{Setup.{Setup}, History.{History, Turn, Call, Reaches}, Turns.{held, entries_at, bucket_read, by_entries, EachTurn}}
 
 -- ---- what is read
 

@@ -2,7 +2,7 @@
 use Rattle.std.specs.Prelude.{◌≡◌, ◌⊎◌, ◌≤◌, ◌<◌, ℕ, All, List, [], ◌∷◌, Option, None, Some, take}
 use Rattle.sha1.specs.Sha1.{sha1}
 use Rattle.cacache_core.specs.{declared.integrity.digest.Hash.{Hash}, Integrity.{Meets, integrity_under}}
-use Rattle.cacache_entry.specs.{Entry.{Entry}, Latest.{Found, found_of, answer_to, latest}}
+use Rattle.cacache_entry.specs.{Entry.{Entry}, Bucket.{Found, found_of, answer_to, latest}}
 use Rattle.cacache_calls.specs.{declared.{command.{Command.{Command}, Put.{Put}}, reply.Reply.TheVariants.{Stored, Read, LookedUp}}, Inserting.{insertion, deletion}, Linking.{commit_for, link_target}, State.{Site}, Storing.{insertion_of, put_commit}}
 use Rattle.cacache_calls.specs.declared.command.Command.TheVariants as commands
 use Rattle.cacache_history.specs.{History.{History, Call}, Places.{now_before, MoveAt, CallIn, TurnsAreOwn, MovesAreOfCalls, MovesAre}, Setup.{call_site}, Values.{bucket_at}}

@@ -3,11 +3,11 @@ use Rattle.std.specs.Prelude.{◌≡◌, ℕ, List, ◌∷◌, Option, Some, Ok}
 use Rattle.sha1.specs.Sha1.{sha1}
 use Rattle.cacache_core.specs.Integrity.{Meets}
 use Rattle.cacache_store.specs.declared.store.step.Step.TheVariants as steps
-use Rattle.cacache_entry.specs.Latest.{Found}
-use Rattle.cacache_calls.specs.{declared.{command.Command.{Command}, reply.Reply.{Reply, TheVariants.{Read}}}, StepPaths.{bucket_path}, Replies.{lookup}, Licence.{handing_out, KeepsTo}}
+use Rattle.cacache_entry.specs.Bucket.{Found}
+use Rattle.cacache_calls.specs.{declared.{command.Command.{Command}, reply.Reply.{Reply, TheVariants.{Read}}}, Steps.{bucket_path}, Replies.{lookup}, Licence.{handing_out, KeepsTo}}
 use Rattle.cacache_calls.specs.declared.command.Command.TheVariants as commands
 use Rattle.cacache_value.specs.Acts.{Nothing, act_of}
-use Rattle.cacache_history.specs.{Setup.{Setup}, History.{History, Turn, Call, Reaches}, Turns.{EachTurn}, ShownTurns.{bucket_read}}
+use Rattle.cacache_history.specs.{Setup.{Setup}, History.{History, Turn, Call, Reaches}, Turns.{EachTurn, bucket_read}}
 
 -- ---- they change nothing
 

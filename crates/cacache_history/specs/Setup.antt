@@ -1,6 +1,6 @@
 -- What callers share, and where their exports and links may lead.
 use Rattle.std.specs.Prelude.{ℕ, Bool, true, false, ◌&&◌, ◌||◌, List, [], ◌∷◌, Option, None, Some, Result, Ok, Err, bytes_eq, if◌then◌else◌}
-use Rattle.cacache_core.specs.{declared.errors.Fault.{Fault}, PathNames.{Names, names_of, home_of}}
+use Rattle.cacache_core.specs.{declared.errors.Fault.{Fault}, Paths.{Names, names_of, home_of}}
 use Rattle.cacache_disk.specs.Tree.{same_path}
 use Rattle.cacache_calls.specs.State.{Site}
 

@@ -4,12 +4,12 @@ use Rattle.sha1.specs.Sha1.{sha1}
 use Rattle.cacache_core.specs.{declared.{errors.Error.TheVariants.{EntryNotFound, OutOfMemory}, integrity.digest.Hash.{Hash}}, Integrity.{Meets}}
 use Rattle.cacache_store.specs.declared.store.step.Step.TheVariants as steps
 use Rattle.cacache_store.specs.Plain.{PlainStep}
-use Rattle.cacache_entry.specs.Latest.{Found}
-use Rattle.cacache_calls.specs.{declared.{answers.Refusal.{Refusal}, command.{Command.{Command}, Source.{Source}}, reply.Reply.{Reply, TheVariants.{Refused}}}, Causes.{HasCause, own_of}, StepPaths.{bucket_path, content_path}, Replies.{find_reply, content_reply, there_reply, refusal_reply, lookup}, Runs.{plain_reply}, Verifying.{CountsAs, UnlessRefused}}
+use Rattle.cacache_entry.specs.Bucket.{Found}
+use Rattle.cacache_calls.specs.{declared.{answers.Refusal.{Refusal}, command.{Command.{Command}, Source.{Source}}, reply.Reply.{Reply, TheVariants.{Refused}}}, Promises.{HasCause, own_of}, Steps.{bucket_path, content_path}, Replies.{find_reply, content_reply, there_reply, refusal_reply, lookup}, Runs.{plain_reply}, Verifying.{CountsAs, UnlessRefused}}
 use Rattle.cacache_calls.specs.declared.command.Command.TheVariants as commands
 use Rattle.cacache_calls.specs.declared.command.Source.TheVariants as sources
 use Rattle.cacache_value.specs.Shows.{blob_bytes}
-use Rattle.cacache_history.specs.{Setup.{Setup}, History.{History, Turn, Call, Reaches}, Turns.{made_in}, ShownTurns.{content_at, bucket_read, content_read, there_read}, ListingTurns.{ListsHeld}}
+use Rattle.cacache_history.specs.{Setup.{Setup}, History.{History, Turn, Call, Reaches}, Turns.{made_in, content_at, bucket_read, content_read, there_read}, ListingTurns.{ListsHeld}}
 
 -- ---- replies
 

@@ -1,8 +1,8 @@
 -- What the cache holds at each place of a history.
 use Rattle.std.specs.Prelude.{◌≡◌, ℕ, List, [], ◌∷◌, ◌++◌, None, Some, Option, false}
-use Rattle.cacache_core.specs.{declared.integrity.{algorithm.Algorithm.{Algorithm}, digest.Hash.{Hash}}, Digests.{digest}, Integrity.{IsHash, IsIntegrity, Meets, hash_of, integrity_under}, PathNames.{Names}, Paths.{content_names}}
+use Rattle.cacache_core.specs.{declared.integrity.{algorithm.Algorithm.{Algorithm}, digest.Hash.{Hash}}, Integrity.{digest, IsHash, IsIntegrity, Meets, hash_of, integrity_under}, Paths.{Names, content_names}}
 use Rattle.cacache_entry.specs.Entry.{Entry}
-use Rattle.cacache_value.specs.{Value.{Blob, InFile, Value, empty_value, wide_value, cache_part, value_of_tree}, Kinds.{is_path_of}, Acts.{Act, Drop, act_of, list_of}, Traces.{Move, acts}, ValueLaws.{KeepBucket, IsLonger}}
+use Rattle.cacache_value.specs.{Value.{Blob, InFile, Value, empty_value, wide_value, cache_part, value_of_tree}, Kinds.{is_path_of}, Acts.{Act, Drop, act_of, list_of, Move, acts}, ValueLaws.{KeepBucket, IsLonger}}
 use Rattle.cacache_history.specs.{declared.record.Record.{Record, TheVariants.{Began, Moved, Stopped}}, Setup.{home}, History.{History, initial, now_at}}
 
 -- the steps of these records, of all callers

@@ -1,11 +1,5 @@
 pub mod Checking
 pub mod PhaseEffort
 pub mod Running
-pub mod Calling
-pub mod Hashed
-pub mod Verified
 pub mod Refusing
-pub mod Matching
 pub mod WrittenCommits
-pub mod SyncedFolders
-pub mod RefusedSteps

@@ -4,7 +4,7 @@ use Rattle.cacache_store.specs.{declared.store.plain.{PlainFile.{PlainFile}, Pla
 use Rattle.cacache_store.specs.declared.store.step.Step.TheVariants as steps
 use Rattle.cacache_calls.specs.{State.{State, Hashing, hashing}, Runs.{effort}, Table.{wants, piece}}
 use Rattle.cacache_jobs.specs.{declared.{stage.{Then.{Then}, Stage.{Stage}}, phase.Phase.{Phase}, syncing.Goal.{Goal}}, JobStates.{GoalAt, ThenAt, StageAt, PhaseAt}, Effort.{goal_effort, then_effort, left_to_read, stage_effort, phase_effort}}
-use Rattle.cacache_jobs.proofs.SyncedFolders.{moved_effort, sync_effort}
+use Rattle.cacache_jobs.proofs.WrittenCommits.{moved_effort, sync_effort}
 use Rattle.cacache_jobs.specs.declared.stage.Then.TheVariants as thens
 use Rattle.cacache_jobs.specs.declared.stage.Stage.TheVariants as stages
 use Rattle.cacache_jobs.specs.declared.phase.Phase.TheVariants as phases

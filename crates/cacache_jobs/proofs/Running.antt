@@ -1,15 +1,16 @@
--- How a run grows by one step, and how a call follows it.
+-- How a run grows by one step, how a call follows it, and which bytes a call by key answers.
 use Rattle.std.proofs.Common.{◌≡◌, ◌⊎◌, inl, inr, ◌<◌, List, [], ◌∷◌, ◌++◌, Option, Some, None, Ok, Err, option_map, true, refl, sym, ap, subst, arith, append_assoc, append-nil}
 use Rattle.std.specs.Prelude.{Result}
 use Rattle.cacache_core.specs.declared.errors.Error.{Error, TheVariants.{OutOfMemory}}
-use Rattle.cacache_store.specs.{declared.store.{plain.{PlainFile.{PlainFile}, PlainTemp.{PlainTemp}}, log.LogItem.{LogItem, TheVariants.{Made}}}, Plain.{PlainStep, PlainAnswer}, Fits.{Fits, Logs}}
-use Rattle.cacache_store.specs.declared.store.answer.Answer.TheVariants as answers
-use Rattle.cacache_calls.specs.{declared.reply.Reply.{Reply, TheVariants.{Refused}}, State.{State, over}, Table.{wants, after}, Runs.{EndsAs, Moves, Runs, Gains, Ran, effort, plain_reply}}
-use Rattle.cacache_calls.proofs.{Effort.{falls}, Memory.{no_memory_after}, Going.{answer_cases, gains_one, no_gain}}
-use Rattle.cacache_jobs.specs.{declared.{phase.Phase.{Phase}, job.Standing.{Standing}}, JobStates.{Leads, PhaseAt}, Jobs.{IdleAt, OutAt, LostMemory, PhaseGoesTo, GoesOnTo, is_idle}, Effort.{phase_effort, result_effort}}
+use Rattle.cacache_store.specs.{declared.store.{plain.{PlainFile.{PlainFile}, PlainTemp.{PlainTemp}}, log.LogItem.{LogItem, TheVariants.{Made}}}, Plain.{PlainStep, PlainAnswer, Fits, Logs}}
+use Rattle.cacache_calls.specs.{declared.{reply.Reply.{Reply, TheVariants.{Refused, Stored, Read, LookedUp, Exists, Copied, Listed, Done}}, command.Command.{Command}}, State.{State, over, Site}, Table.{wants, after, opening}, Runs.{EndsAs, Moves, Runs, Gains, Ran, effort, plain_reply}, Verifying.{UnlessRefused}}
+use Rattle.cacache_calls.proofs.{Effort.{falls}, Going.{no_memory_after, answer_cases, gains_one, no_gain}, Replies.{gets_meet}, Verifying.{exports_verify, links_read_whole}}
+use Rattle.cacache_jobs.specs.{declared.{phase.Phase.{Phase}, job.Standing.{Standing}}, JobStates.{Leads, PhaseAt}, Jobs.{IdleAt, OutAt, LostMemory, PhaseGoesTo, GoesOnTo, is_idle}, Effort.{phase_effort, result_effort}, ReadFirst.{FindsBytes, ReadsFirst}}
 use Rattle.cacache_jobs.proofs.PhaseEffort.{phase_effort_is}
+use Rattle.cacache_store.specs.declared.store.answer.Answer.TheVariants as answers
 use Rattle.cacache_jobs.specs.declared.phase.Phase.TheVariants as phases
 use Rattle.cacache_jobs.specs.declared.job.Standing.TheVariants as standings
+use Rattle.cacache_calls.specs.declared.command.Command.TheVariants as commands
 
 -- the steps so far lead from the first state to this one
 pub record Reached (s0 : State) (old new : Option (List LogItem)) (s : State) : Type 0 where
@@ -96,3 +97,30 @@ ended_by e x (inr is) = (x.moves ++ [], x.goes [] (plain_reply (Refused e)) (inr
 
 pub start : (s : State) (log : Option (List LogItem)) → Reached s log log s
 start s log = record { moves = []; gains = no_gain log; goes = λ more r h. h }
+
+-- ---- a call by key answers only bytes that meet what its own read of the bucket found; exports and links read first
+
+-- a call by key that answers bytes began with a read of its bucket
+pub finds_bytes : (site : Site) (command : Command) (r : Reply) (old new : Option (List LogItem)) → Ran (opening site command) r old new → FindsBytes site.cache command r old new
+finds_bytes site (commands.Get key) (Read bytes) old new ran =
+    (ran.0, ran.2, gets_meet site key ran.0 bytes ran.1)
+finds_bytes site command r old new ran = tt
+
+-- if P implies Q, and P holds unless a call was refused, then Q holds unless it was refused
+unless_so : (P Q : Type 0) (r : Reply) → (P → Q) → UnlessRefused P r → UnlessRefused Q r
+unless_so P Q (Refused e) k h = tt
+unless_so P Q (Stored i) k h = k h
+unless_so P Q (Read bytes) k h = k h
+unless_so P Q (LookedUp found) k h = k h
+unless_so P Q (Exists there) k h = k h
+unless_so P Q (Copied n) k h = k h
+unless_so P Q (Listed items) k h = k h
+unless_so P Q Done k h = k h
+
+-- an export or a link that isn't refused reads first
+pub reads_first : (site : Site) (command : Command) (r : Reply) (old new : Option (List LogItem)) → Ran (opening site command) r old new → ReadsFirst site command r old new
+reads_first site (commands.Export source e) r old new ran = λ checked.
+    unless_so _ _ r (λ so. (ran.0, ran.2, so)) (exports_verify site source e ran.0 r checked ran.1)
+reads_first site (commands.Link link) r old new ran =
+    unless_so _ _ r (λ so. (ran.0, ran.2, so)) (links_read_whole site link ran.0 r ran.1)
+reads_first site command r old new ran = tt

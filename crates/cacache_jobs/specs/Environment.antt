@@ -1,9 +1,9 @@
 -- What a call does to its environment: its times and numbers are those of the environment, before and after.
 use Rattle.std.specs.Prelude.{◌≡◌, ◌<◌, ◌^◌, ℕ, List, Option, None, Some}
-use Rattle.cacache_store.specs.{declared.{env.Env.{Env}, store.log.LogItem.{LogItem}}, Given.{AddsAnswer}}
+use Rattle.cacache_store.specs.{declared.{env.Env.{Env}, store.log.LogItem.{LogItem}}, Outside.{AddsAnswer}}
 use Rattle.cacache_calls.specs.{declared.{command.{Put.{Put}, Command.{Command}}, reply.Reply.{Reply}}, Table.{opening}, Runs.{Ran}}
 use Rattle.cacache_calls.specs.declared.command.Command.TheVariants as commands
-use Rattle.cacache_jobs.specs.Sites.{site_of}
+use Rattle.cacache_jobs.specs.JobStates.{site_of}
 
 -- only the store of the environment may have changed
 abbrev pub KeepsRest : {S C N : Type 0} → Env S C N → Env S C N → Type 0

@@ -2,7 +2,7 @@
 use Rattle.std.specs.Prelude.{ℕ, List, Option}
 use Rattle.serde_json.specs.Data.{Data}
 use Rattle.cacache_entry.specs.Entry.{Entry}
-use Rattle.cacache_calls.specs.{StepPaths.{bucket_folder}, State.{State, Insertion, doing, appending, make_folder}}
+use Rattle.cacache_calls.specs.{Steps.{bucket_folder}, State.{State, Insertion, doing, appending, make_folder}}
 
 -- the entry of a key, from the text of its integrity, its size, time, metadata and raw metadata
 abbrev pub entry_with : List ℕ → Option (List ℕ) → ℕ → ℕ → Data → Option (List ℕ) → Entry

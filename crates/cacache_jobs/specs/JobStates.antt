@@ -1,11 +1,11 @@
--- Which state of the table a job is in.
+-- Which state of the table a job is in, and the site at which it begins.
 use Rattle.std.specs.Prelude.{◌≡◌, ℕ, List, [], Option, Some, None, Result, Ok, Err, length, string_bytes}
-use Rattle.cacache_core.specs.{declared.{errors.Error.{Error}, integrity.digest.Hash.{Hash}}, Hashers.{Holds, algorithm_of}, Pieces.{Compares}}
+use Rattle.cacache_core.specs.{declared.{errors.Error.{Error}, integrity.digest.Hash.{Hash}}, Hashers.{Holds, algorithm_of, Compares}}
 use Rattle.cacache_store.specs.{declared.store.plain.{PlainFile.{PlainFile}, PlainTemp.{PlainTemp}}, Plain.{PlainStep, plain_step}}
-use Rattle.cacache_calls.specs.{StepPaths.{content_path, bucket_path, temp_path}, State.{State, doing, creating, writing, syncing, persisting, confirming, appending, looking, reading, asking, sizing, opening_file, hashing, copying, linking, over, Errand, to_verify, to_link}, declared.{carried.Content.{Content}, reply.Reply.{Reply, TheVariants.{Stored, Done}}}, Inserting.{bucket_line}, Common.{sync_up}, Storing.{placed, move_in}, Removing.{remove_bucket}, Runs.{plain_reply, EndsAs}, Table.{wants}}
-use Rattle.cacache_calls.specs.State as states
+use Rattle.cacache_calls.specs.{Steps.{content_path, bucket_path, temp_path}, State.{State, doing, creating, writing, syncing, persisting, confirming, appending, looking, reading, asking, sizing, opening_file, hashing, copying, linking, over, Errand, to_verify, to_link, Site}, declared.{carried.Content.{Content}, reply.Reply.{Reply, TheVariants.{Stored, Done}}}, Inserting.{bucket_line}, Common.{sync_up}, Storing.{placed, move_in}, Removing.{remove_bucket}, Runs.{plain_reply, EndsAs}, Table.{wants}}
 use Rattle.cacache_walks.specs.WalkStates.{WalksAt}
 use Rattle.cacache_jobs.specs.declared.{inserting.Insertion.{Insertion}, hashing.Hashing.{Hashing}, syncing.Goal.{Goal}, stage.{Then.{Then}, Stage.{Stage}}, phase.Phase.{Phase}}
+use Rattle.cacache_calls.specs.State as states
 use Rattle.cacache_jobs.specs.declared.hashing.Hashing.TheVariants as hashings
 use Rattle.cacache_jobs.specs.declared.syncing.Goal.TheVariants as goals
 use Rattle.cacache_jobs.specs.declared.stage.Then.TheVariants as thens
@@ -106,3 +106,9 @@ abbrev pub Leads :
     {F T : Type 0} → (F → PlainFile) → (T → PlainTemp) → Result (Phase F T) Error → State → Type 0
 Leads file temp (Ok phase) s = PhaseAt file temp phase s
 Leads file temp (Err e) s = EndsAs e s
+
+-- ---- the site at which a job begins
+
+-- a cache, the base folder and the number of the temporary file
+abbrev pub site_of : List ℕ → List ℕ → ℕ → Site
+site_of cache base number = record { cache = cache; base = base; number = number }

@@ -1,12 +1,24 @@
--- The state to which an answer's value takes a call.
-use Rattle.std.specs.Prelude.{◌≡◌, ℕ, List, [], Bool, Option, Result, length}
-use Rattle.cacache_core.specs.{declared.{errors.Error.{Error}, integrity.{checker.IntegrityChecker.{IntegrityChecker}, digest.Hash.{Hash}}}, Integrity.{integrity_under}, Pieces.{Compares}}
-use Rattle.cacache_store.specs.{declared.store.{answer.Answer.{Answer}, log.LogItem.{LogItem}, plain.{PlainFile.{PlainFile}, PlainTemp.{PlainTemp}}, step.Step.{Step}}, Fits.{Logs}, Plain.{plain_step, plain_answer}}
+-- The state to which an answer's value takes a call, what it brought, or the error with which it ends the call.
+use Rattle.std.specs.Prelude.{◌≡◌, Result, Ok, Err, ℕ, List, [], Bool, Option, length}
+use Rattle.cacache_core.specs.{declared.{errors.Error.{Error}, integrity.{checker.IntegrityChecker.{IntegrityChecker}, digest.Hash.{Hash}}}, Integrity.{integrity_under}, Hashers.{Compares}}
+use Rattle.cacache_calls.specs.{declared.{answers.{Refusal.{Refusal}, Got.{Got}}, carried.{Commit.{Commit}, Content.{Content}}, command.{Export.{Export}, Link.{Link}}, target.Target.{Target}, visit.Visit.{Visit}}, Common.{fails, refuse, go_on}, Runs.{EndsAs}, State.{persisting, sizing, hashing}, Answers.{file_in}, Reading.{verified}, Inserting.{insert}, Linking.{after_read, commit_for, link_target}, Steps.{seen_by, got_as, content_path}, Storing.{link}, Walking.{after_visit}}
+use Rattle.cacache_store.specs.{declared.store.{answer.Answer.{Answer}, log.LogItem.{LogItem}, plain.{PlainFile.{PlainFile}, PlainTemp.{PlainTemp}}, step.Step.{Step}}, Plain.{Logs, plain_step, plain_answer}}
 use Rattle.cacache_entry.specs.{View.{entry_view}, declared.metadata.SerializableMetadata.{SerializableMetadata}}
-use Rattle.cacache_calls.specs.{declared.{answers.{Got.{Got}, Refusal.{Refusal}}, carried.{Commit.{Commit}, Content.{Content}}, command.{Export.{Export}, Link.{Link}}, target.Target.{Target}, visit.Visit.{Visit}}, State.{persisting, sizing, hashing}, Answers.{file_in}, Common.{go_on, fails}, Exporting.{verified}, Inserting.{insert}, Linking.{after_read, commit_for, link_target}, Seen.{seen_by, got_as}, StepPaths.{content_path}, Storing.{link}, Walking.{after_visit}}
-use Rattle.cacache_calls.specs.State as states
 use Rattle.cacache_walks.specs.{declared.walk.Walk.{Walk}, WalkStates.{Counts, pending, walk_of}}
-use Rattle.cacache_jobs.specs.{declared.{hashing.Hashing.{Hashing}, phase.Phase.{Phase}}, JobStates.{HashesFor, Leads, insertion_reply}, Sites.{site_of}}
+use Rattle.cacache_jobs.specs.{declared.{hashing.Hashing.{Hashing}, phase.Phase.{Phase}}, JobStates.{HashesFor, Leads, insertion_reply, site_of}}
+use Rattle.cacache_calls.specs.State as states
+
+-- the step was refused, and the refusal ends a call with this error
+abbrev pub EndsRefused : {Y : Type 0} → Result Y Refusal → Error → Type 0
+EndsRefused (Ok y) e = ⊥
+EndsRefused (Err refusal) e = EndsAs e (refuse refusal fails)
+
+-- the step brought this value, viewed through `seen`, or it was refused
+abbrev pub Brings : {X Y : Type 0} → (X → Y) → Result Y Refusal → Result X Error → Type 0
+Brings seen answer (Ok x) = answer ≡ Ok (seen x)
+Brings seen answer (Err e) = EndsRefused answer e
+
+-- ---- the state to which an answer's value takes a call
 
 module _ {F T : Type 0} (file : F → PlainFile) (temp : T → PlainTemp) where
   -- the log has this step and its answer, as they are viewed

@@ -1,7 +1,7 @@
 //! Reads what an answer to a step brought: for the stages of a job, and for callers that make the step themselves.
 ghost use Rattle.cacache_store.specs.Plain.{plain_answer};
 ghost use Rattle.cacache_calls.specs.Answers.{file_in, length_in, temp_in};
-ghost use Rattle.cacache_jobs.specs.Brought.{Brings};
+ghost use Rattle.cacache_jobs.specs.LeadsOn.{Brings};
 
 use crate::messages;
 use crate::phase::refused;
@@ -14,7 +14,7 @@ use std::alloc::Global;
 /// The temporary file that the step was to make in the cache.
 ///
 /// `IoError` reports that it wasn't made.
-#[tactic(auto, using(crate::proofs::RefusedSteps::refused_ends))]
+#[tactic(auto, using(crate::proofs::Refusing::refused_ends))]
 pub fn made_temp<F: FileHandle, T: TempHandle>(
     alloc: Global,
     cache: &str,
@@ -31,7 +31,7 @@ pub fn made_temp<F: FileHandle, T: TempHandle>(
 /// The file that the step was to open at the path: a content or a link's target.
 ///
 /// `IoError` reports that it wasn't opened.
-#[tactic(auto, using(crate::proofs::RefusedSteps::refused_ends))]
+#[tactic(auto, using(crate::proofs::Refusing::refused_ends))]
 pub fn opened_file<F: FileHandle, T: TempHandle>(
     alloc: Global,
     path: &Text,
@@ -48,7 +48,7 @@ pub fn opened_file<F: FileHandle, T: TempHandle>(
 /// The size in bytes of the link's target at the path, which the step was to find.
 ///
 /// `IoError` reports that the size wasn't found.
-#[tactic(auto, using(crate::proofs::RefusedSteps::refused_ends))]
+#[tactic(auto, using(crate::proofs::Refusing::refused_ends))]
 pub fn told_size<F: FileHandle, T: TempHandle>(
     alloc: Global,
     path: &Text,

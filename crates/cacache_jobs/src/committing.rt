@@ -1,7 +1,7 @@
 //! Commits contents from a temporary file that already has their bytes.
 ghost use Rattle.std.specs.Prelude.{◌≡◌};
 ghost use Rattle.cacache_core.specs.declared.errors.Error.TheVariants.{OutOfMemory};
-ghost use Rattle.cacache_calls.specs.{Formed.{FormsCommit}, Promises.{OnlyStores, Stores}, Runs.{Ran, plain_reply}, Storing.{persist}, declared.reply.Reply.TheVariants.{Refused}};
+ghost use Rattle.cacache_calls.specs.{Sound.{FormsCommit}, Promises.{OnlyStores, Stores}, Runs.{Ran, plain_reply}, Storing.{persist}, declared.reply.Reply.TheVariants.{Refused}};
 
 use crate::run::go_on;
 use crate::storing::begin_commit;

@@ -8,7 +8,7 @@ use cacache_core::integrity::Integrity;
 use cacache_core::laws::integrity_laws;
 
 /// Whether the expected integrity matches the computed one.
-#[tactic(auto, using(crate::proofs::Matching::same_answer))]
+#[tactic(auto, using(crate::proofs::Checking::same_answer))]
 fn agree(expected: &Integrity, computed: &Integrity) -> bool
     ensures { result ≡ matches expected.now computed.now }
 {

@@ -1,5 +1,5 @@
 //! Exports of contents. An unchecked export is one step; a checked export first reads the content to its end.
-ghost use Rattle.cacache_calls.specs.{Common.{go_on, fails}, Exporting.{export as export_of, export_from as export_from_of, copied_count}, State.{over}, declared.reply.Reply.TheVariants.{Copied}};
+ghost use Rattle.cacache_calls.specs.{Common.{go_on, fails}, Reading.{export as export_of, export_from as export_from_of, copied_count}, State.{over}, declared.reply.Reply.TheVariants.{Copied}};
 ghost use Rattle.cacache_jobs.specs.JobStates.{Leads};
 
 use crate::phase::{Phase, refused};

@@ -1,6 +1,6 @@
 //! Reads files to their end, hashes each byte once and keeps none: contents to verify, and targets of links.
 ghost use Rattle.std.specs.Prelude.{◌≡◌, ℕ, List, ◌++◌, length};
-ghost use Rattle.cacache_calls.specs.{Linking.{after_read as after_read_of, hashed as hashed_of}, StepPaths.{content_path as content_path_of}, State.{Hashing as Purpose, opening_file, to_verify}, Seen.{got_as}};
+ghost use Rattle.cacache_calls.specs.{Linking.{after_read as after_read_of, hashed as hashed_of}, Steps.{content_path as content_path_of, got_as}, State.{Hashing as Purpose, opening_file, to_verify}};
 ghost use Rattle.cacache_jobs.specs.{JobStates.{Leads, HashesFor}, LeadsOn.{LeadsOpened, LeadsRead, LeadsVerified}};
 
 use crate::brought::opened_file;

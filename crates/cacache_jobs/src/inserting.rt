@@ -1,7 +1,7 @@
 //! Puts an entry into its bucket: tests the entry, makes the bucket's folder and appends once.
 ghost use Rattle.std.specs.Prelude.{◌≡◌, None, IfOk, IfErr, OnOk, option_map, string_bytes, length};
 ghost use Rattle.cacache_core.specs.declared.errors.Error.TheVariants.{OutOfMemory};
-ghost use Rattle.cacache_calls.specs.{Common.{go_on, fails}, Inserting.{insert as insert_of, insertion as insertion_of, deletion as deletion_of, after_append as after_append_of, recorded, bucket_line, refused_cause, given_or, given_text, no_integrity as without_integrity}, StepPaths.{bucket_path as bucket_path_of}, State.{Insertion as Inserted, appending}, Runs.{EndsAs}};
+ghost use Rattle.cacache_calls.specs.{Common.{go_on, fails}, Inserting.{insert as insert_of, insertion as insertion_of, deletion as deletion_of, after_append as after_append_of, recorded, bucket_line, refused_cause, given_or, given_text, no_integrity as without_integrity}, Steps.{bucket_path as bucket_path_of}, State.{Insertion as Inserted, appending}, Runs.{EndsAs}};
 ghost use Rattle.cacache_entry.specs.View.{entry_view};
 ghost use Rattle.cacache_jobs.specs.{IntoBuckets.{entry_with, into_bucket}, JobStates.{Leads, PhaseAt, IsInsertion, insertion_reply}, LeadsOn.{LeadsInsert}};
 

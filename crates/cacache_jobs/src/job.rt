@@ -2,7 +2,7 @@
 ghost use Rattle.std.specs.Prelude.{◌≡◌, IfOk, IsTrue, option_map};
 ghost use Rattle.cacache_store.specs.Plain.{PlainStep, plain_step, plain_answer};
 ghost use Rattle.cacache_calls.specs.{State.{State}, Table.{opening, after}};
-ghost use Rattle.cacache_jobs.specs.{Sites.{site_of}, Jobs.{Stands, HasOut, GoesTo, PhaseGoesTo, HandsOut, Tells, is_step, has_out, can_go_on, reply_in}, JobStates.{Leads, PhaseAt}};
+ghost use Rattle.cacache_jobs.specs.{JobStates.{site_of, Leads, PhaseAt}, Jobs.{Stands, HasOut, GoesTo, PhaseGoesTo, HandsOut, Tells, is_step, has_out, can_go_on, reply_in}};
 
 use crate::opening::open;
 use crate::phase::Phase;

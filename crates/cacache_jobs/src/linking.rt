@@ -1,7 +1,7 @@
 //! Links: reads the target to its end, and makes a link to it the content.
 ghost use Rattle.std.specs.Prelude.{◌≡◌};
 ghost use Rattle.cacache_store.specs.Plain.{plain_answer};
-ghost use Rattle.cacache_calls.specs.{Answers.{length_in}, Common.{go_on, fails}, Linking.{after_size as after_size_of}, StepPaths.{content_path as content_path_of}, State.{opening_file, to_link, linking as linking_state}, Storing.{link as link_of}};
+ghost use Rattle.cacache_calls.specs.{Answers.{length_in}, Common.{go_on, fails}, Linking.{after_size as after_size_of}, Steps.{content_path as content_path_of}, State.{opening_file, to_link, linking as linking_state}, Storing.{link as link_of}};
 ghost use Rattle.cacache_jobs.specs.{JobStates.{Leads}, LeadsOn.{LeadsHashed, LeadsSizing}};
 
 use crate::brought::told_size;
@@ -84,7 +84,7 @@ fn open_target<F: FileHandle, T: TempHandle>(
 }
 
 /// Goes on after the step that finds the target's size: opens the target to hash it.
-#[tactic(auto, using(crate::proofs::RefusedSteps::ends_refused))]
+#[tactic(auto, using(crate::proofs::Refusing::ends_refused))]
 pub(crate) fn after_size<F: FileHandle, T: TempHandle>(
     alloc: Global,
     target: Box<Target<u128>>,

@@ -1,7 +1,7 @@
 //! Looks up keys, and goes on with what each lookup is for.
 ghost use Rattle.std.specs.Prelude.{◌≡◌, IfOk, IfErr};
 ghost use Rattle.cacache_core.specs.declared.errors.Error.TheVariants.{OutOfMemory};
-ghost use Rattle.cacache_calls.specs.{Common.{go_on}, Looking.{found_for, found_in, after_bucket, no_bucket}, State.{looking as looking_state}};
+ghost use Rattle.cacache_calls.specs.{Common.{go_on}, Reading.{found_for, found_in, after_bucket, no_bucket}, State.{looking as looking_state}};
 ghost use Rattle.cacache_jobs.specs.JobStates.{Leads};
 
 use crate::phase::{Phase, refused};
@@ -90,7 +90,7 @@ fn go_on_without_entry<F: FileHandle, T: TempHandle>(
 }
 
 /// The entry that the lookup finds in the bucket's bytes, if any.
-#[tactic(auto, unfolding(cacache_calls::specs::Looking::found_in))]
+#[tactic(auto, unfolding(cacache_calls::specs::Reading::found_in))]
 fn entry_in(alloc: Global, lookup: &Lookup, bytes: &[u8]) -> errors::Result<Option<Found>>
     ensures found { IfOk result (λ found. found ≡ found_in lookup.now.key bytes.now) }
     ensures refused { IfErr result (λ e. e ≡ OutOfMemory) }

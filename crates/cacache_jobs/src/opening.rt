@@ -3,7 +3,7 @@ ghost use Rattle.std.specs.Prelude.{ℕ, List, true, false};
 ghost use Rattle.cacache_core.specs.Paths.{index_area, join as join_of};
 ghost use Rattle.cacache_calls.specs.{State.{looking as looking_state, reading as reading_state, asking as asking_state}, Table.{opening}, Walking.{walk}};
 ghost use Rattle.cacache_calls.specs.declared.command.Command.TheVariants as commands;
-ghost use Rattle.cacache_jobs.specs.{Sites.{site_of}, JobStates.{Leads}};
+ghost use Rattle.cacache_jobs.specs.JobStates.{site_of, Leads};
 
 use crate::phase::Phase;
 use crate::{exporting, inserting, linking, looking, reading, removing, storing, walking};

@@ -1,5 +1,5 @@
 //! Reads contents, and asks whether one is there.
-ghost use Rattle.cacache_calls.specs.{Common.{go_on, fails}, ContentReads.{checked as checked_of, answer_there, answer_absent}, declared.reply.Reply.TheVariants.{Exists}, Replies.{there_reply}, Runs.{reply_of}, State.{reading as reading_state, asking as asking_state}};
+ghost use Rattle.cacache_calls.specs.{Common.{go_on, fails}, Reading.{checked as checked_of, answer_there, answer_absent}, declared.reply.Reply.TheVariants.{Exists}, Replies.{there_reply}, Runs.{reply_of}, State.{reading as reading_state, asking as asking_state}};
 ghost use Rattle.std.specs.Prelude.{◌≡◌};
 ghost use Rattle.cacache_jobs.specs.JobStates.{Leads};
 

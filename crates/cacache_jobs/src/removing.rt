@@ -1,6 +1,6 @@
 //! Removes one content, or one key.
 ghost use Rattle.std.specs.Prelude.{◌≡◌, List, ℕ};
-ghost use Rattle.cacache_calls.specs.{State.{over}, StepPaths.{bucket_path as bucket_path_of}, Removing.{remove_content as remove_content_of, remove_bucket as remove_bucket_of}, declared.reply.Reply.TheVariants.{Done}};
+ghost use Rattle.cacache_calls.specs.{State.{over}, Steps.{bucket_path as bucket_path_of}, Removing.{remove_content as remove_content_of, remove_bucket as remove_bucket_of}, declared.reply.Reply.TheVariants.{Done}};
 ghost use Rattle.cacache_jobs.specs.JobStates.{Leads};
 
 use crate::phase::Phase;

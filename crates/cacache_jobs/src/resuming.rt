@@ -1,7 +1,7 @@
 //! Links to targets that the caller has already read to their end.
 ghost use Rattle.std.specs.Prelude.{◌≡◌};
 ghost use Rattle.cacache_core.specs.declared.errors.Error.TheVariants.{OutOfMemory};
-ghost use Rattle.cacache_calls.specs.{Formed.{FormsCommit}, Promises.{OnlyStores, Stores}, Runs.{Ran, plain_reply}, Storing.{link as link_of}, declared.reply.Reply.TheVariants.{Refused}};
+ghost use Rattle.cacache_calls.specs.{Sound.{FormsCommit}, Promises.{OnlyStores, Stores}, Runs.{Ran, plain_reply}, Storing.{link as link_of}, declared.reply.Reply.TheVariants.{Refused}};
 
 use crate::linking::link;
 use crate::run::go_on;

@@ -1,9 +1,9 @@
 //! Runs a call on a store.
 ghost use Rattle.std.specs.Prelude.{◌≡◌};
 ghost use Rattle.cacache_core.specs.declared.errors.Error.TheVariants.{OutOfMemory};
-ghost use Rattle.cacache_store.specs.{Fits.{Fits}, Plain.{plain_step, plain_answer}};
-ghost use Rattle.cacache_calls.specs.{Formed.{FormsCommand}, Promises.{Answers}, Runs.{Ran, plain_reply}, State.{State}, Table.{opening}, declared.reply.Reply.TheVariants.{Refused}};
-ghost use Rattle.cacache_jobs.specs.{ReadFirst.{FindsBytes, ReadsFirst}, Jobs.{Stands}, Sites.{site_of}, JobStates.{Leads}, LeadsOn.{LogsSeen}};
+ghost use Rattle.cacache_store.specs.Plain.{Fits, plain_step, plain_answer};
+ghost use Rattle.cacache_calls.specs.{Sound.{FormsCommand}, Promises.{Answers}, Runs.{Ran, plain_reply}, State.{State}, Table.{opening}, declared.reply.Reply.TheVariants.{Refused}};
+ghost use Rattle.cacache_jobs.specs.{ReadFirst.{FindsBytes, ReadsFirst}, Jobs.{Stands}, JobStates.{site_of, Leads}, LeadsOn.{LogsSeen}};
 
 use crate::job::Job;
 use crate::opening::open;

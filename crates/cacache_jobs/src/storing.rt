@@ -3,7 +3,7 @@
 ghost use Rattle.std.specs.Prelude.{◌≡◌, ℕ, IfOk, IfErr, drop};
 ghost use Rattle.cacache_core.specs.{Integrity.{integrity_under}, declared.errors.Error.TheVariants.{OutOfMemory}};
 ghost use Rattle.cacache_store.specs.Plain.{plain_answer};
-ghost use Rattle.cacache_calls.specs.{Answers.{temp_in}, Common.{go_on, fails}, StepPaths.{content_path as content_path_of, temp_path as temp_path_of}, State.{Site, creating, syncing, persisting, confirming}, Storing.{persist as persist_of, write_rest as write_rest_of, placed as placed_of, secured as secured_of, secured_found as secured_found_of, move_in as move_in_of, indexed, after_write as after_write_of, after_confirm as after_confirm_of, put_commit, store as store_of}, Seen.{seen_by, written_as}};
+ghost use Rattle.cacache_calls.specs.{Answers.{temp_in}, Common.{go_on, fails}, Steps.{content_path as content_path_of, temp_path as temp_path_of, seen_by, written_as}, State.{Site, creating, syncing, persisting, confirming}, Storing.{persist as persist_of, write_rest as write_rest_of, placed as placed_of, secured as secured_of, secured_found as secured_found_of, move_in as move_in_of, indexed, after_write as after_write_of, after_confirm as after_confirm_of, put_commit, store as store_of}};
 ghost use Rattle.cacache_jobs.specs.{JobStates.{Leads, PhaseAt}, LeadsOn.{LeadsSynced}};
 
 use crate::brought::made_temp;
@@ -64,7 +64,7 @@ fn commit_of(alloc: Global, cache: &str, put: Put) -> errors::Result<(Box<Commit
 }
 
 /// Begins a put.
-#[tactic(auto, unfolding(cacache_calls::specs::StepPaths::temp_path, cacache_calls::specs::StepPaths::temp_folder))]
+#[tactic(auto, unfolding(cacache_calls::specs::Steps::temp_path, cacache_calls::specs::Steps::temp_folder))]
 pub(crate) fn store<F: FileHandle, T: TempHandle>(
     alloc: Global,
     cache: &str,
@@ -138,7 +138,7 @@ fn write_rest<F: FileHandle, T: TempHandle>(
 }
 
 /// Goes on after the step that makes the temporary file.
-#[tactic(auto, using(crate::proofs::RefusedSteps::ends_refused))]
+#[tactic(auto, using(crate::proofs::Refusing::ends_refused))]
 pub(crate) fn after_create<F: FileHandle, T: TempHandle>(
     alloc: Global,
     commit: Box<Commit>,

@@ -93,7 +93,7 @@ fn sync_dir<F: FileHandle, T: TempHandle>(
 }
 
 /// Syncs the folders that lead down from the cache's own, starting with the last and going up.
-#[tactic(auto, using(crate::proofs::SyncedFolders::last_first))]
+#[tactic(auto, using(crate::proofs::WrittenCommits::last_first))]
 pub(crate) fn sync_up<F: FileHandle, T: TempHandle>(
     alloc: Global,
     folders: Vec<Text>,

@@ -1,15 +1,15 @@
 -- What a durable commit appended to a bucket survives.
-use Rattle.std.proofs.{Common.{◌≡◌, ◌≤◌, ◌+◌, ◌-◌, inl, inr, ℕ, suc, Bool, true, false, cond, List, [], ◌∷◌, ◌++◌, Option, None, Some, Ok, length, take, refl, sym, ap, subst, ◌∙◌, arith, append_assoc, append-nil, length-append}, lemmas.List.{take_all}}
+use Rattle.std.proofs.{lemmas.{Grind.{common_steps}, List.{take_all}}, Common.{rules, ◌≡◌, ◌≤◌, ◌+◌, ◌-◌, inl, inr, ℕ, suc, Bool, true, false, cond, List, [], ◌∷◌, ◌++◌, Option, None, Some, Ok, length, take, refl, sym, ap, subst, ◌∙◌, arith, append_assoc, append-nil, length-append}}
 use Rattle.std.specs.Prelude.{bytes_eq}
-use Rattle.cacache_core.specs.PathNames.{Names, names_of}
+use Rattle.cacache_core.specs.Paths.{Names, names_of}
 use Rattle.cacache_store.specs.{declared.store.{step.Step.TheVariants.{CreateTemp, Write, Persist, Append, SyncTemp, SyncFile, SyncDir}, answer.Answer.TheVariants.{Took, Failed}}, Plain.{PlainStep, PlainAnswer}}
-use Rattle.cacache_disk.specs.{declared.{luck.Luck.{Luck}, node.Node.{Node, TheVariants.{File}}}, Tree.{Tree, look, same_path, bytes_of}, Rooted.{Rooted}, LedTo.{leads, place, followed}, Apply.{apply, make_some}}
+use Rattle.cacache_disk.specs.{declared.{luck.Luck.{Luck}, node.Node.{Node, TheVariants.{File}}}, Tree.{Tree, look, same_path, bytes_of, Rooted}, LedTo.{leads, place, followed}, Apply.{apply, make_some}}
 use Rattle.cacache_disk.proofs.{Maps.{same_path-true}, PutNodes.{look-put}, Roots.{same_self}, Standing.{way_clear}}
 use Rattle.cacache_entry.specs.{Entry.{Entry, line_of, closed_line}, FittingEntries.{IsEntry, IsWritable}, Bucket.{entries_of}}
-use Rattle.cacache_entry.proofs.{Pieces.{entries_split}, Lines.{lines_append}}
-use Rattle.cacache_value.specs.{Kinds.{Content, Bucket, Temporary, path_kind, is_used, Way}, Placed.{Placed, Proper}, Traces.{Move}}
-use Rattle.cacache_loss.specs.{Fixing.{Fixed, Fixing, Place, changed, file_synced, fixed_after, folder_synced, is_at, is_child_of, is_sync, is_synced, refixed, synced, temp_synced}, Loss.{Loss, node_left}, Moments.{EachMove, Moment, after, lost_then, next}, LostTrees.{OfCache}, CalmMoves.{CalmStep, IsCalm, is_calm}, Syncs.{IsAppend, IsFileSync, SyncsFile, SyncsFolders}, LossLaws.{BeginsWith, BucketsSurvive, EntriesSurvive}}
-use Rattle.cacache_loss.proofs.{StepCases.{AppendCase, unsent, took, torn, append_case, grown, make_apart}, UnchangedPaths.{at_false, Misses}, KeptPaths.{cond_none, keeps, files_keep, names_kept, sync_tree, cache_next, each_calm}, SyncedFolders.{IsLeft, survives, Any, any, not_top}}
+use Rattle.cacache_entry.proofs.{Pieces.{entries_split}, Lookups.{lines_append}}
+use Rattle.cacache_value.specs.{Kinds.{Content, Bucket, Temporary, path_kind, is_used, Way}, Placed.{Placed, Proper}, Acts.{Move}}
+use Rattle.cacache_loss.specs.{Fixing.{Fixed, Fixing, Place, changed, fixed_after, is_at, is_sync, is_synced, refixed, synced, temp_synced}, Loss.{Loss, node_left}, Moments.{EachMove, Moment, after, lost_then, next, CalmStep, IsCalm, is_calm}, LostTrees.{OfCache}, Syncs.{IsAppend, IsFileSync, SyncsFile, SyncsFolders}, LossLaws.{BeginsWith, BucketsSurvive, EntriesSurvive}}
+use Rattle.cacache_loss.proofs.{StepCases.{AppendCase, unsent, took, torn, append_case, grown, make_apart}, Reaching.{at_false, Misses}, KeptPaths.{cond_none, keeps, files_keep, names_kept, sync_tree, cache_next, each_calm}, SyncedFolders.{IsLeft, survives, Any, any, not_top}}
 
 -- a path at which there is a file leads to it
 pub leads_file : (t : Tree) (p bytes : List ℕ) (c : Names) → Rooted t → names_of p ≡ Ok c → look t c ≡ Some (File bytes) → leads t p ≡ Ok c
@@ -22,8 +22,7 @@ abbrev Kept : ℕ → Fixing → Type 0
 Kept size f = size ≤ f.kept
 
 lengthened : (size : ℕ) (b : Bool) (f : Fixing) → Kept size f → Kept size (refixed false b true f)
-lengthened size true f e = e
-lengthened size false f e = e
+lengthened size b f e = grind (arith, common_steps)
 
 take_more : (a b : List ℕ) (k : ℕ) → take (length a + k) (a ++ b) ≡ a ++ take k b
 take_more [] b k = let none : 0 + k ≡ k = omega arith in ap (λ n. take n b) none
@@ -66,16 +65,11 @@ module _ (home : Option Names) (c : Names) (at : path_kind home c ≡ Bucket) (z
         )
 
     unmoved : (p line : List ℕ) (answer : PlainAnswer) → Keeps t fixed t (changed fixed t t (Append p line) answer)
-    unmoved p line answer = (
-      (more, there),
-      (λ k. rw there (lengthened (length z) (bytes_eq (z ++ more) (z ++ more)) (fixed.files c) k)),
-      (λ e. rw there e),
-    )
+    unmoved p line answer = search (rules, lengthened)
 
     reached : (p line : List ℕ) (answer : PlainAnswer) (o : PlainAnswer × Tree) → is_at (names_of p) c ≡ true → AppendCase t p line o
         → Keeps t fixed o.1 (changed fixed t o.1 (Append p line) answer)
-    reached p line answer o here (unsent fault e) =
-        subst (λ (o : PlainAnswer × Tree). Keeps t fixed o.1 (changed fixed t o.1 (Append p line) answer)) (sym e) (unmoved p line answer)
+    reached p line answer o here (unsent fault e) = search (rules, unmoved)
     reached p line answer o here (took names n is e) =
         subst (λ (o : PlainAnswer × Tree). Keeps t fixed o.1 (changed fixed t o.1 (Append p line) answer)) (sym e)
         (behind p line answer names n (same_path-true c names (ap (λ r. is_at r c) (sym is) ∙ here)))
@@ -91,8 +85,7 @@ module _ (home : Option Names) (c : Names) (at : path_kind home c ≡ Bucket) (z
     -- ---- syncs
 
     sync_keeps : (b : Bool) (later : Fixed) → Keeps t fixed t later → Keeps t fixed t (cond b later fixed)
-    sync_keeps true later kept = kept
-    sync_keeps false later kept = ((more, there), (λ k. k), λ e. e)
+    sync_keeps b later kept = grind (arith, common_steps)
 
     by_sync : (step : PlainStep) (luck : Luck) (b : Bool) (later : Fixed) → is_sync step ≡ true → Keeps t fixed t later
         → Keeps t fixed (apply t step luck).1 (cond b later fixed)
@@ -102,8 +95,7 @@ module _ (home : Option Names) (c : Names) (at : path_kind home c ≡ Bucket) (z
     longer = rw there (omega (arith, length-append z more))
 
     cond_kept : (b : Bool) (f : Fixing) → Kept (length z) f → Kept (length z) (cond b (synced (bytes_of (look t c))) f)
-    cond_kept true f k = longer
-    cond_kept false f k = k
+    cond_kept b f k = grind (arith, longer)
 
     -- ---- each step
 
@@ -115,10 +107,8 @@ module _ (home : Option Names) (c : Names) (at : path_kind home c ≡ Bucket) (z
     each_keeps (SyncTemp f) luck answer calm is =
         by_sync (SyncTemp f) luck (is_synced answer) (temp_synced fixed f) refl
         ((more, there), (λ k. rw (at_false home Temporary Bucket c (names_of f.path) calm.1 at (λ e. cc)) k), λ e. e)
-    each_keeps (SyncFile p) luck answer calm is =
-        by_sync (SyncFile p) luck (is_synced answer) (file_synced fixed t p) refl ((more, there), cond_kept (is_at (leads t p) c) (fixed.files c), λ e. e)
-    each_keeps (SyncDir p) luck answer calm is =
-        by_sync (SyncDir p) luck (is_synced answer) (folder_synced fixed p) refl ((more, there), (λ k. k), cond_none (is_child_of (names_of p) c) (fixed.names c))
+    each_keeps (SyncFile p) luck answer calm is = search (rules, by_sync, cond_kept)
+    each_keeps (SyncDir p) luck answer calm is = search (rules, by_sync, cond_none)
     each_keeps (CreateTemp p) luck answer calm is = missed (CreateTemp p) luck answer refl is (at_false home Temporary Bucket c (names_of p) is at (λ e. cc))
     each_keeps (Write f bytes) luck answer calm is = missed (Write f bytes) luck answer refl is (at_false home Temporary Bucket c (names_of f.path) calm.1 at (λ e. cc))
     each_keeps step luck answer calm is = missed step luck answer calm.0 is tt
@@ -209,10 +199,7 @@ begun home t c bytes (Append p line) luck answer placed proper told is =
 begun home t c bytes step luck answer placed proper told is = absurd is
 
 pub buckets_survive : BucketsSurvive
-buckets_survive home c bytes w m moves loss at of_cache calm is later file way =
-    bucket_survives home c at (bytes_of (look w.tree c) ++ bytes) (next w m) moves loss
-    (cache_next home w m of_cache calm.1, begun home w.tree c bytes m.step m.luck m.answer of_cache.0 calm.1 calm.2 is)
-    (each_calm home (next w m) moves later) file way
+buckets_survive home c bytes w m moves loss at of_cache calm is later file way = search (rules, bucket_survives, cache_next, begun, each_calm)
 
 -- the line feed after the line cuts it from whatever follows
 closed : (x l more : List ℕ) → (x ++ (l ++ 10 ∷ [])) ++ more ≡ (x ++ l) ++ 10 ∷ more

@@ -1,12 +1,12 @@
 -- Finitely many names change, so a loss leaves a tree.
-use Rattle.std.proofs.{Common.{◌≡◌, Bool, true, false, cond, List, [], ◌∷◌, ◌++◌, Option, None, Some, refl, sym, ap, ◌∙◌}, lemmas.{List.Folds.{list_any-append}, Bool.{or_parts}}}
-use Rattle.std.specs.{Prelude.{not, ◌&&◌, ◌||◌, is_some, unwrap_or}, List.{list_any}}
+use Rattle.std.proofs.{lemmas.{Grind.{common_steps}, List.Folds.{list_any-append}, Bool.{or_parts}}, Common.{rules, arith, ◌≡◌, Bool, true, false, cond, List, [], ◌∷◌, ◌++◌, Option, None, Some, refl, sym, ap, ◌∙◌}}
+use Rattle.std.specs.{Prelude.{◌||◌, is_some, unwrap_or}, List.{list_any}}
 use Rattle.std.specs.FinMap as map
-use Rattle.cacache_core.specs.PathNames.{Names, names_of}
-use Rattle.cacache_store.specs.{declared.store.step.Step.TheVariants.{SyncTemp, SyncFile, SyncDir}, Plain.{PlainStep, PlainAnswer}}
+use Rattle.cacache_core.specs.Paths.{Names}
+use Rattle.cacache_store.specs.Plain.{PlainStep, PlainAnswer}
 use Rattle.cacache_disk.{specs.{declared.node.Node.{Node}, Tree.{Tree, look, names_cmp, put, same_path}}, proofs.{Maps.{total, only, same_path-true}, PutNodes.{look-put}}}
 use Rattle.cacache_value.proofs.Shows.{trees_show}
-use Rattle.cacache_loss.specs.{ChangedNames.{FewChanged, HistoriesLeaveCaches, LeavesOneTree, LossesLeaveOneTree, MovesChangeFew, OpeningsChangedNone, opening}, Fixing.{Fixed, Place, changed, file_synced, fixed_after, folder_synced, is_child_of, is_synced, moved_to, moves_file, place_now, temp_synced}, Loss.{Loss, Lost, lead_folders, left_at, stays}, Moments.{Moment, after, lost_then, next}}
+use Rattle.cacache_loss.specs.{ChangedNames.{FewChanged, HistoriesLeaveCaches, LeavesOneTree, LossesLeaveOneTree, MovesChangeFew, OpeningsChangedNone, opening}, Fixing.{Fixed, Place, changed, fixed_after, moved_to, moves_file}, Loss.{Loss, Lost}, Moments.{Moment, after, lost_then, next}}
 use Rattle.cacache_loss.proofs.{LossCases.{gone}, LostTrees.{losses_leave_trees, moves_keep_moments, openings_stand_well}, KeptPaths.{none_cond, cond_none}}
 
 -- ---- paths that aren't among some
@@ -18,8 +18,7 @@ pub not_among : (q : Names) (paths more : List Names) → is_among q (paths ++ m
 not_among q paths more e = or_parts (is_among q paths) (is_among q more) (sym (list_any-append (same_path q) paths more) ∙ e)
 
 nothing : (here : Option Node) → is_some here ≡ false → here ≡ None
-nothing None e = refl
-nothing (Some node) e = absurd cc
+nothing here e = grind (arith, common_steps)
 
 -- there is something only at a tree's keys
 pub not_there : (t : Tree) (q : Names) → is_among q (map.keys t) ≡ false → look t q ≡ None
@@ -35,8 +34,7 @@ moved_paths None = []
 moved_paths (Some (from, to)) = to ∷ []
 
 not_moved : (o : Option (Names × Names)) (q : Names) → is_among q (moved_paths o) ≡ false → moved_to o q ≡ false
-not_moved None q e = refl
-not_moved (Some (from, to)) q e = (or_parts (same_path q to) false e).0
+not_moved o q e = grind (arith, common_steps)
 
 changed_few : (fixed : Fixed) (old new : Tree) (step : PlainStep) (answer : PlainAnswer) → FewChanged fixed → FewChanged (changed fixed old new step answer)
 changed_few fixed old new step answer few = record {
@@ -49,16 +47,11 @@ changed_few fixed old new step answer few = record {
 }
 
 synced_few : (b : Bool) (later fixed : Fixed) → FewChanged later → FewChanged fixed → FewChanged (cond b later fixed)
-synced_few true later fixed new old = new
-synced_few false later fixed new old = old
+synced_few b later fixed new old = grind (arith, common_steps)
 
+-- a step changes few names
 step_few : (fixed : Fixed) (old new : Tree) (step : PlainStep) (answer : PlainAnswer) → FewChanged fixed → FewChanged (fixed_after fixed old new step answer)
-step_few fixed old new (SyncTemp f) answer few = synced_few (is_synced answer) (temp_synced fixed f) fixed (record { paths = few.paths; only = few.only }) few
-step_few fixed old new (SyncFile p) answer few = synced_few (is_synced answer) (file_synced fixed old p) fixed (record { paths = few.paths; only = few.only }) few
-step_few fixed old new (SyncDir p) answer few =
-    synced_few (is_synced answer) (folder_synced fixed p) fixed
-    (record { paths = few.paths; only = λ q apart. cond_none (is_child_of (names_of p) q) (fixed.names q) (few.only q apart) }) few
-step_few fixed old new step answer few = changed_few fixed old new step answer few
+step_few fixed old new step answer few = grind (arith, synced_few, only, cond_none, changed_few)
 
 pub moves_change_few : MovesChangeFew
 moves_change_few w [] few = few
@@ -76,14 +69,11 @@ gathered here (p ∷ paths) = with_node (gathered here paths) p (here p)
 
 here_twice : (here : Names → Option Node) (p q : Names) (there : Option Node) (a b : Bool) → here p ≡ there → same_path q p ≡ a
     → cond a there (cond b (here q) None) ≡ cond (a || b) (here q) None
-here_twice here p q there true b is e = sym is ∙ ap here (sym (same_path-true q p e))
-here_twice here p q there false b is e = refl
+here_twice here p q there a b is e = grind (arith, same_path-true)
 
 look_with : (t : Tree) (p q : Names) (there : Option Node) (b : Bool) (old : Option Node) → same_path q p ≡ b → look t q ≡ old
     → (b ≡ true → there ≡ None → old ≡ None) → look (with_node t p there) q ≡ cond b there old
-look_with t p q None true old e is free = is ∙ free refl refl
-look_with t p q None false old e is free = is
-look_with t p q (Some node) b old e is free = rw (look-put t p node q, e, is) refl
+look_with t p q there b old e is free = grind (arith, look-put)
 
 look_gathered : (here : Names → Option Node) (q : Names) (paths : List Names) → look (gathered here paths) q ≡ cond (is_among q paths) (here q) None
 look_gathered here q [] = map.get-empty names_cmp q
@@ -95,15 +85,11 @@ look_gathered here q (p ∷ paths) =
 -- ---- the tree that a loss leaves
 
 left_none : (b : Bool) (before : Option Place) (now : Place) → before ≡ None → now.node ≡ None → (cond b (unwrap_or before now) now).node ≡ None
-left_none true None now same free = free
-left_none true (Some place) now same free = absurd cc
-left_none false before now same free = free
+left_none b before now same free = grind (arith, common_steps)
 
 -- a loss leaves nothing where nothing is and nothing was
 pub none_left_at : (home : Option Names) (w : Moment) (loss : Loss) (q : Names) → look w.tree q ≡ None → w.fixed.names q ≡ None → lost_then home w loss q ≡ None
-none_left_at home w loss q free same =
-    gone (lead_folders (left_at home w.tree w.fixed loss) [] q) (left_at home w.tree w.fixed loss q) (loss.tail q)
-    (left_none (loss.undone q && not (stays home q)) (w.fixed.names q) (place_now w.tree w.fixed q) same free)
+none_left_at home w loss q free same = search (rules, gone, left_none)
 
 left_there : (home : Option Names) (w : Moment) (loss : Loss) (few : FewChanged w.fixed) (q : Names) (b : Bool) → is_among q (few.paths ++ map.keys w.tree) ≡ b
     → cond b (lost_then home w loss q) None ≡ lost_then home w loss q

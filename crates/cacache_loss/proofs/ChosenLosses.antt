@@ -1,11 +1,11 @@
 -- The maps of a loss, one text after another.
-use Rattle.std.proofs.{Common.{◌≡◌, ◌<◌, ◌≤◌, ◌+◌, ℕ, suc, Bool, true, false, cond, List, [], ◌∷◌, Option, None, Some, Ok, length, get_or, take, drop, refl, sym, ap, ◌∙◌, arith, drop-cons, add-one}, lemmas.List.{take_more, drop_all, Folds.{list_any-append}}}
+use Rattle.std.proofs.{Common.{◌≡◌, ◌<◌, ◌≤◌, ◌+◌, ℕ, suc, Bool, true, false, cond, List, [], ◌∷◌, Option, None, Some, Ok, length, get_or, take, drop, refl, sym, ap, ◌∙◌, arith, drop-cons, add-one}, lemmas.List.{take_more, Folds.{list_any-append}}}
 use Rattle.std.specs.{Prelude.{Result, Err, ◌||◌, is_some, unwrap_or}, List.{list_any}, Result.{result_ok}, BTreeMap.{BTreeMap, get}, BTreeSet.{BTreeSet, contains}}
 use Rattle.std.specs.BTreeMap as btree
 use Rattle.std.specs.BTreeSet as btree_set
-use Rattle.cacache_core.specs.{declared.errors.Fault.{Fault}, PathNames.{Names, names_of}}
+use Rattle.cacache_core.specs.{declared.errors.Fault.{Fault}, Paths.{Names, names_of}}
 use Rattle.cacache_disk.{specs.Tree.{names_cmp, same_path}, proofs.Maps.{same_path-true}}
-use Rattle.cacache_loss.{specs.{Fixing.{is_at}, Chosen.{tail_at}}, proofs.PathMaps.{symmetric, or_false}}
+use Rattle.cacache_loss.{specs.{Fixing.{is_at}, Running.{tail_at}}, proofs.PathMaps.{symmetric, or_false}}
 
 -- ---- names that are undone
 
@@ -22,10 +22,6 @@ at_found : (q path : Names) (r : Result Names Fault) → Some path ≡ result_ok
 at_found q path (Ok names) is = let same : path ≡ names = cc in ap (same_path q) same
 at_found q path (Err fault) is = absurd cc
 
-at_nothing : (q : Names) (r : Result Names Fault) → None ≡ result_ok r → is_at r q ≡ false
-at_nothing q (Ok names) is = absurd cc
-at_nothing q (Err fault) is = refl
-
 -- one more name in the set
 in_front : (a b : Bool) → cond a true b ≡ (b || a)
 in_front true true = refl
@@ -41,14 +37,6 @@ undone_more old new texts i text path below is named u so q =
     ∙ ap (cond (same_path q path) true) (so q)
     ∙ in_front (same_path q path) (list_any (names_it q) (take i texts))
     ∙ ap (λ b. list_any (names_it q) (take i texts) || b) (at_found q path (names_of text) named)
-    ∙ sym (undone_next texts i text q below is)
-
-pub undone_none : (paths : BTreeSet Names) (texts : List (List ℕ)) (i : ℕ) (text : List ℕ) → i < length texts → text ≡ get_or texts i text → None ≡ result_ok (names_of text)
-    → ((q : Names) → contains names_cmp paths q ≡ list_any (names_it q) (take i texts))
-    → (q : Names) → contains names_cmp paths q ≡ list_any (names_it q) (take (i + 1) texts)
-undone_none paths texts i text below is named so q =
-    so q ∙ sym (or_false (list_any (names_it q) (take i texts)))
-    ∙ ap (λ b. list_any (names_it q) (take i texts) || b) (sym (at_nothing q (names_of text) named))
     ∙ sym (undone_next texts i text q below is)
 
 -- ---- tails
@@ -102,12 +90,3 @@ module _ (tails : BTreeMap Names (List ℕ)) (files : List (List ℕ × List ℕ
 
   pub tails_known : (path : Names) → Some path ≡ result_ok (names_of file.0) → true ≡ is_some (get names_cmp tails path) → TailsSoFar tails files i → TailsSoFar tails files (i + 1)
   tails_known path named there so q = known_first tails path q file.1 (rest q) (same_path q path) refl there ∙ found path q named ∙ next q ∙ so q
-
-  pub tails_none : None ≡ result_ok (names_of file.0) → TailsSoFar tails files i → TailsSoFar tails files (i + 1)
-  tails_none named so q =
-      ap (λ b. unwrap_or (get names_cmp tails q) (cond b file.1 (rest q))) (sym (at_nothing q (names_of file.0) named)) ∙ next q ∙ so q
-
-pub tails_all : (tails : BTreeMap Names (List ℕ)) (files : List (List ℕ × List ℕ)) (i : ℕ) → length files ≤ i → TailsSoFar tails files i
-    → (q : Names) → unwrap_or (get names_cmp tails q) [] ≡ tail_at files q
-tails_all tails files i end so q =
-    ap (λ (fs : List (List ℕ × List ℕ)). unwrap_or (get names_cmp tails q) (tail_at fs q)) (sym (drop_all i files (omega (arith, end)))) ∙ so q

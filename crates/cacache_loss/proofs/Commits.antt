@@ -1,14 +1,14 @@
 -- A durable commit survives from its own steps on.
-use Rattle.std.proofs.{Common.{◌≡◌, inl, inr, ℕ, Bool, true, false, cond, List, [], ◌∷◌, ◌++◌, Option, None, Some, Ok, fold, refl, sym, ap, subst, ◌∙◌, append_assoc}, lemmas.List.Sums.{fold-append}}
+use Rattle.std.proofs.{lemmas.{Grind.{common_steps}, List.Sums.{fold-append}}, Common.{rules, arith, ◌≡◌, inl, inr, ℕ, Bool, true, cond, List, [], ◌∷◌, ◌++◌, Option, None, Some, Ok, fold, refl, sym, ap, subst, ◌∙◌, append_assoc}}
 use Rattle.std.specs.Prelude.{unwrap_or}
-use Rattle.cacache_core.specs.PathNames.{Names, names_of}
+use Rattle.cacache_core.specs.Paths.{Names, names_of}
 use Rattle.cacache_store.specs.{declared.store.{plain.PlainTemp.{PlainTemp}, step.Step.TheVariants.{Persist, SyncTemp, SyncFile, SyncDir}, answer.Answer.TheVariants.{Done, Failed}}, Plain.{PlainStep, PlainAnswer}}
-use Rattle.cacache_disk.specs.{declared.{luck.Luck.{Luck}, node.Node.TheVariants.{File}}, Tree.{Tree, look, put, cut, bytes_of}, Rooted.{Rooted}, LedTo.{leads}, Apply.{apply}}
+use Rattle.cacache_disk.specs.{declared.{luck.Luck.{Luck}, node.Node.TheVariants.{File}}, Tree.{Tree, look, put, cut, Rooted}, Apply.{apply}}
 use Rattle.cacache_disk.proofs.{PutNodes.{look-put}, Roots.{same_self}}
-use Rattle.cacache_entry.{specs.Latest.{after_entry, latest}, proofs.Lookups.{last_answer_decides}}
-use Rattle.cacache_value.specs.{Kinds.{Content, path_kind}, Value.{bucket_in}, Placed.{Proper}, Traces.{Move}}
-use Rattle.cacache_loss.specs.{Fixing.{Fixed, Fixing, between, changed, file_synced, fixed_after, folder_synced, is_at, is_synced, place_now, temp_synced}, CalmMoves.{AreCalm, PutWell}, Loss.{Loss}, LostTrees.{OfCache}, Moments.{EachMove, Moment, after, lost_then, next}, Syncs.{IsFileSync, IsPut, IsTempSync, Leaves, LeavesStep, SyncsFolders}, LossLaws.{CommitsSurvive, FoundSurvive, GoodNode, HasDigest, IsSafe, LookupsSurvive}}
-use Rattle.cacache_loss.proofs.{StepCases.{PersistCase, refused, moved, persist_case}, UnchangedPaths.{file_kept}, KeptPaths.{cond_whole, sync_tree, cache_next}, Contents.{GoodOrLink, SafeOrLink, contents_survive, content_survives, good_file, only_good}, Buckets.{leads_file}}
+use Rattle.cacache_entry.{specs.Bucket.{after_entry, latest}, proofs.Lookups.{last_answer_decides}}
+use Rattle.cacache_value.specs.{Kinds.{Content, path_kind}, Value.{bucket_in}, Placed.{Proper}, Acts.{Move}}
+use Rattle.cacache_loss.specs.{Fixing.{Fixed, Fixing, between, changed, fixed_after, folder_synced, is_synced, place_now}, Moments.{AreCalm, PutWell, EachMove, Moment, after, lost_then, next}, Loss.{Loss}, LostTrees.{OfCache}, Syncs.{IsFileSync, IsPut, IsTempSync, Leaves, LeavesStep, SyncsFolders}, LossLaws.{CommitsSurvive, FoundSurvive, GoodNode, HasDigest, IsSafe, LookupsSurvive}}
+use Rattle.cacache_loss.proofs.{StepCases.{PersistCase, refused, moved, persist_case}, Reaching.{file_kept}, KeptPaths.{cond_whole, sync_tree, cache_next}, Contents.{GoodOrLink, SafeOrLink, contents_survive, content_survives, good_file, only_good}, Buckets.{leads_file}}
 
 -- ---- a temporary file that is synced stays so while nobody touches it
 
@@ -16,15 +16,12 @@ abbrev IsWhole : Fixed → Names → Type 0
 IsWhole fixed q = (fixed.files q).whole ≡ true
 
 sync_whole : (b : Bool) (later fixed : Fixed) (q : Names) → IsWhole later q → IsWhole fixed q → IsWhole (cond b later fixed) q
-sync_whole true later fixed q new old = new
-sync_whole false later fixed q new old = old
+sync_whole b later fixed q new old = grind (arith, common_steps)
 
 whole_next : (w : Moment) (step : PlainStep) (new : Tree) (answer : PlainAnswer) (q : Names) → LeavesStep q w step new answer → IsWhole w.fixed q
     → IsWhole (fixed_after w.fixed w.tree new step answer) q
-whole_next w (SyncTemp f) new answer q leaves e =
-    sync_whole (is_synced answer) (temp_synced w.fixed f) w.fixed q (cond_whole (is_at (names_of f.path) q) (unwrap_or f.bytes []) (w.fixed.files q) e) e
-whole_next w (SyncFile p) new answer q leaves e =
-    sync_whole (is_synced answer) (file_synced w.fixed w.tree p) w.fixed q (cond_whole (is_at (leads w.tree p) q) (bytes_of (look w.tree q)) (w.fixed.files q) e) e
+whole_next w (SyncTemp f) new answer q leaves e = search (rules, sync_whole, cond_whole)
+whole_next w (SyncFile p) new answer q leaves e = search (rules, sync_whole, cond_whole)
 whole_next w (SyncDir p) new answer q leaves e = sync_whole (is_synced answer) (folder_synced w.fixed p) w.fixed q e e
 whole_next w step new answer q leaves e = ap (λ (f : Fixing). f.whole) (file_kept w.fixed w.tree new step answer q (look w.tree q) refl leaves.0 leaves.3 leaves.2 leaves.1) ∙ e
 
@@ -89,15 +86,12 @@ module _ (Good Links : List ℕ → Type 0) (home : Option Names) (c : Names) wh
   found_safe t fixed luck step answer rooted either s = absurd s
 
   file_sync_proper : (step : PlainStep) (answer : PlainAnswer) → IsFileSync c step answer → Proper home step
-  file_sync_proper (SyncFile p) answer s = tt
-  file_sync_proper step answer s = absurd s
+  file_sync_proper step answer s = grind (arith, common_steps)
 
   -- the file or the link that a sync found is left
   pub found_stays : (w : Moment) (s : Move) (moves : List Move) (loss : Loss) → path_kind home c ≡ Content → OfCache home w → GoodOrLink Good Links (look w.tree c) → IsFileSync c s.step s.answer
       → AreCalm home (next w s) moves → PutWell Good c (next w s) moves → SyncsFolders home [] c moves → GoodOrLink Good Links (lost_then home (after (next w s) moves) loss c)
-  found_stays w s moves loss at of_cache found sync later puts way =
-      content_survives home c at Good Links (next w s) moves loss (cache_next home w s of_cache (file_sync_proper s.step s.answer sync))
-      (found_safe w.tree w.fixed s.luck s.step s.answer of_cache.1 found sync) later puts way
+  found_stays w s moves loss at of_cache found sync later puts way = search (rules, content_survives, cache_next, file_sync_proper, found_safe)
 
 pub found_survive : FoundSurvive
 found_survive home a c w s moves loss at of_cache good sync later puts way =

@@ -1,13 +1,13 @@
 -- Contents that a durable commit put survive, and so do links at a content's path.
-use Rattle.std.proofs.Common.{◌≡◌, ◌⊎◌, inl, inr, ℕ, Bool, true, false, cond, List, [], ◌∷◌, Option, None, Some, Ok, Err, refl, sym, ap, subst, ◌∙◌}
+use Rattle.std.proofs.{lemmas.Grind.{common_steps}, Common.{rules, arith, ◌≡◌, ◌⊎◌, inl, ℕ, Bool, true, false, cond, List, [], ◌∷◌, Option, None, Some, Ok, refl, sym, ap, subst, ◌∙◌}}
 use Rattle.std.specs.Prelude.{Result, IfOk, unwrap_or}
-use Rattle.cacache_core.specs.{declared.errors.Fault.{Fault}, PathNames.{Names, names_of}}
+use Rattle.cacache_core.specs.{declared.errors.Fault.{Fault}, Paths.{Names, names_of}}
 use Rattle.cacache_store.specs.{declared.store.{plain.PlainTemp.{PlainTemp}, step.Step.TheVariants.{CreateTemp, Write, Persist, Append, SyncTemp, SyncFile, SyncDir}, answer.Answer.TheVariants.{Done, Failed}}, Plain.{PlainStep, PlainAnswer}}
-use Rattle.cacache_disk.specs.{declared.{luck.Luck.{Luck}, node.Node.{Node, TheVariants.{Folder, File, Link}}}, Tree.{Tree, look, put, cut, same_path, bytes_of}, LedTo.{leads}, Apply.{apply, make_some}}
+use Rattle.cacache_disk.specs.{declared.{luck.Luck.{Luck}, node.Node.{Node, TheVariants.{File, Link}}}, Tree.{Tree, look, put, cut, same_path}, Apply.{apply, make_some}}
 use Rattle.cacache_disk.proofs.{Maps.{same_path-true}, PutNodes.{look-put}, Roots.{same_self}}
-use Rattle.cacache_value.specs.{Kinds.{Content, Bucket, Temporary, path_kind, is_used, IsFor, Way}, Placed.{Placed, Proper}, Traces.{Move}}
-use Rattle.cacache_loss.specs.{Fixing.{Fixed, Fixing, Place, changed, file_synced, fixed_after, folder_synced, is_at, is_child_of, is_sync, is_synced, moved_to, moves_file, place_now, temp_synced}, Loss.{Loss, node_left}, Moments.{Moment, after, lost_then, next}, LostTrees.{OfCache}, CalmMoves.{AreCalm, CalmStep, IsCalm, OfBytes, PutWell, PutsMove, PutsStep, is_calm}, Syncs.{SyncsFolders}, LossLaws.{ContentsSurvive, GoodNode, HasDigest, IsSafe}}
-use Rattle.cacache_loss.proofs.{StepCases.{PersistCase, refused, moved, persist_case, make_apart}, UnchangedPaths.{at_false, Misses, file_kept, name_kept}, KeptPaths.{cond_whole, keeps, files_keep, names_kept, sync_tree, cache_next, each_calm}, SyncedFolders.{IsLeft, survives}}
+use Rattle.cacache_value.specs.{Kinds.{Content, Bucket, Temporary, path_kind, is_used, IsFor, Way}, Placed.{Placed, Proper}, Acts.{Move}}
+use Rattle.cacache_loss.specs.{Fixing.{Fixed, Fixing, Place, changed, fixed_after, is_at, is_sync, moved_to, moves_file, place_now}, Loss.{Loss, node_left}, Moments.{Moment, after, lost_then, next, AreCalm, CalmStep, IsCalm, OfBytes, PutWell, PutsMove, PutsStep, is_calm}, LostTrees.{OfCache}, Syncs.{SyncsFolders}, LossLaws.{ContentsSurvive, GoodNode, HasDigest, IsSafe}}
+use Rattle.cacache_loss.proofs.{StepCases.{PersistCase, refused, moved, persist_case, make_apart}, Reaching.{at_false, Misses, file_kept, name_kept}, KeptPaths.{cond_whole, keeps, files_keep, names_kept, sync_tree, cache_next, each_calm}, SyncedFolders.{IsLeft, survives}}
 
 -- ---- a good file, or a link
 
@@ -25,26 +25,20 @@ SafeOrLink Good Links place = IsSafe Good place ⊎ LinksTo Links place.node
 
 -- if no link may be there it is a file
 pub only_good : (Good : List ℕ → Type 0) (here : Option Node) → GoodOrLink Good (λ target. ⊥) here → GoodNode Good here
-only_good Good here (inl good) = good
-only_good Good here (inr link) = absurd link.1
+only_good Good here which = grind (arith, common_steps)
 
 -- a good node is a file
 abbrev pub IsGoodFile : (List ℕ → Type 0) → Option Node → Type 0
 IsGoodFile Good here = (bytes : List ℕ) × (here ≡ Some (File bytes)) × Good bytes
 
 pub good_file : (Good : List ℕ → Type 0) (here : Option Node) → GoodNode Good here → IsGoodFile Good here
-good_file Good None g = absurd g
-good_file Good (Some Folder) g = absurd g
-good_file Good (Some (File bytes)) g = (bytes, refl, g)
-good_file Good (Some (Link target)) g = absurd g
+good_file Good here g = grind (arith, common_steps)
 
 of_bytes : (Good : List ℕ → Type 0) (o : Option (List ℕ)) (bytes : List ℕ) → o ≡ Some bytes → OfBytes Good o → Good bytes
-of_bytes Good None bytes e g = absurd g
-of_bytes Good (Some b) bytes e g = let same : b ≡ bytes = cc in subst Good same g
+of_bytes Good o bytes e g = grind (arith, common_steps)
 
 whole_at : (fixed : Fixed) (r : Result Names Fault) (from : Names) → r ≡ Ok from → IfOk r (λ n. (fixed.files n).whole ≡ true) → (fixed.files from).whole ≡ true
-whole_at fixed (Ok n) from e h = let same : n ≡ from = cc in subst (λ n. (fixed.files n).whole ≡ true) same h
-whole_at fixed (Err fault) from e h = absurd cc
+whole_at fixed r from e h = grind (arith, common_steps)
 
 -- ---- calm moves
 
@@ -58,21 +52,17 @@ module _ (home : Option Names) (c : Names) (at : path_kind home c ≡ Content) (
   Was (Some place) = Either place
 
   was_or_now : (o : Option Place) (now : Place) → Was o → Either now → Either (unwrap_or o now)
-  was_or_now None now w s = s
-  was_or_now (Some place) now w s = w
+  was_or_now o now w s = grind (arith, common_steps)
 
   cond_was : (b : Bool) (o : Option Place) → Was o → Was (cond b None o)
-  cond_was true o w = tt
-  cond_was false o w = w
+  cond_was b o w = grind (arith, common_steps)
 
   -- the same node, fixed as far or further
   either_so : (old new : Place) → new.node ≡ old.node → (old.fixing.whole ≡ true → new.fixing.whole ≡ true) → Either old → Either new
-  either_so old new node whole (inl s) = inl (subst (GoodNode Good) (sym node) s.0, whole s.1)
-  either_so old new node whole (inr link) = inr (link.0, link.1, node ∙ link.2)
+  either_so old new node whole which = grind (arith, common_steps)
 
   some_node : (place : Place) → Either place → (n : Node) × (place.node ≡ Some n)
-  some_node place (inl s) = let g = good_file Good place.node s.0 in (File g.0, g.1)
-  some_node place (inr link) = (Link link.0, link.2)
+  some_node place which = grind (arith, good_file)
 
   abbrev Holds : Moment → Type 0
   Holds w = OfCache home w × Either (place_now w.tree w.fixed c)
@@ -120,11 +110,7 @@ module _ (home : Option Names) (c : Names) (at : path_kind home c ≡ Content) (
 
       reached : (o : PlainAnswer × Tree) → is_at (names_of p) c ≡ true → answer ≡ o.0 → PersistCase t f p o
           → Keeps t fixed o.1 (changed fixed t o.1 (Persist f p) answer)
-      reached o here told (refused fault e) =
-          subst (λ (o : PlainAnswer × Tree). answer ≡ o.0 → Keeps t fixed o.1 (changed fixed t o.1 (Persist f p) answer)) (sym e) (λ is. stayed fault is) told
-      reached o here told (moved new old to has from names e) =
-          subst (λ (o : PlainAnswer × Tree). answer ≡ o.0 → Keeps t fixed o.1 (changed fixed t o.1 (Persist f p) answer)) (sym e)
-          (λ is. arrived new old to has from names is (same_path-true c to (ap (λ r. is_at r c) (sym names) ∙ here))) told
+      reached o here told holds = grind (arith, refused, stayed, moved, arrived, same_path-true)
 
       persisted : (luck : Luck) (b : Bool) → is_at (names_of p) c ≡ b → IsFor home Content p → answer ≡ (apply t (Persist f p) luck).0
           → Keeps t fixed (apply t (Persist f p) luck).1 (changed fixed t (apply t (Persist f p) luck).1 (Persist f p) answer)
@@ -134,8 +120,7 @@ module _ (home : Option Names) (c : Names) (at : path_kind home c ≡ Content) (
     -- ---- syncs
 
     sync_keeps : (b : Bool) (later : Fixed) → Keeps t fixed t later → Keeps t fixed t (cond b later fixed)
-    sync_keeps true later kept = kept
-    sync_keeps false later kept = (now, λ w. w)
+    sync_keeps b later kept = grind (arith, common_steps)
 
     by_sync : (step : PlainStep) (luck : Luck) (b : Bool) (later : Fixed) → is_sync step ≡ true → Keeps t fixed t later
         → Keeps t fixed (apply t step luck).1 (cond b later fixed)
@@ -148,15 +133,9 @@ module _ (home : Option Names) (c : Names) (at : path_kind home c ≡ Content) (
         → Keeps t fixed (apply t step luck).1 (fixed_after fixed t (apply t step luck).1 step answer)
     each_keeps (Persist f p) luck answer calm is puts told = persisted f p answer is.0 puts luck (is_at (names_of p) c) refl is.1 told
     each_keeps (Append p line) luck answer calm is puts told = missed (Append p line) luck answer refl is (at_false home Bucket Content c (names_of p) is.0 at (λ e. cc))
-    each_keeps (SyncTemp f) luck answer calm is puts told =
-        by_sync (SyncTemp f) luck (is_synced answer) (temp_synced fixed f) refl
-        (either_so (place_now t fixed c) (place_now t (temp_synced fixed f) c) refl (cond_whole (is_at (names_of f.path) c) (unwrap_or f.bytes []) (fixed.files c)) now, λ w. w)
-    each_keeps (SyncFile p) luck answer calm is puts told =
-        by_sync (SyncFile p) luck (is_synced answer) (file_synced fixed t p) refl
-        (either_so (place_now t fixed c) (place_now t (file_synced fixed t p) c) refl (cond_whole (is_at (leads t p) c) (bytes_of (look t c)) (fixed.files c)) now, λ w. w)
-    each_keeps (SyncDir p) luck answer calm is puts told =
-        by_sync (SyncDir p) luck (is_synced answer) (folder_synced fixed p) refl
-        (either_so (place_now t fixed c) (place_now t (folder_synced fixed p) c) refl (λ whole. whole) now, cond_was (is_child_of (names_of p) c) (fixed.names c))
+    each_keeps (SyncTemp f) luck answer calm is puts told = search (rules, by_sync, either_so, cond_whole)
+    each_keeps (SyncFile p) luck answer calm is puts told = search (rules, by_sync, either_so, cond_whole)
+    each_keeps (SyncDir p) luck answer calm is puts told = search (rules, by_sync, either_so, cond_was)
     each_keeps (CreateTemp p) luck answer calm is puts told = missed (CreateTemp p) luck answer refl is (at_false home Temporary Content c (names_of p) is at (λ e. cc))
     each_keeps (Write f bytes) luck answer calm is puts told = missed (Write f bytes) luck answer refl is (at_false home Temporary Content c (names_of f.path) calm.1 at (λ e. cc))
     each_keeps step luck answer calm is puts told = missed step luck answer calm.0 is tt
@@ -177,8 +156,7 @@ module _ (home : Option Names) (c : Names) (at : path_kind home c ≡ Content) (
   not_top (Some (n ∷ rest)) e = cc
 
   left_either : (place : Place) (tail : List ℕ) → Either place → GoodOrLink Good Links (node_left place.fixing tail place.node)
-  left_either place tail (inl s) = let g = good_file Good place.node s.0 in inl (rw (g.1, s.1) g.2)
-  left_either place tail (inr link) = inr (link.0, link.1, ap (node_left place.fixing tail) link.2)
+  left_either place tail which = grind (arith, good_file)
 
   left_here : (here : Option Node) (tail : List ℕ) → IsLeft Either tail here → GoodOrLink Good Links here
   left_here here tail left = subst (GoodOrLink Good Links) (sym left.2) (left_either left.0 tail left.1)

@@ -1,14 +1,13 @@
--- What a calm step keeps at a path that it doesn't reach.
-use Rattle.std.proofs.{Common.{◌≡◌, ◌+◌, ℕ, Bool, true, false, cond, List, [], ◌∷◌, ◌++◌, Option, None, Some, length, take, refl, ◌∙◌, arith, length-append}, Math.Seq.{take-append_seam}, lemmas.Bool.{eq-eqb}}
-use Rattle.std.specs.{Ordering.{nat_cmp}, Bool.{nat_eq}, Cmp.Lexicographic.{pointwise, slice_cmp, lists_ties, texts_ties}}
-use Rattle.cacache_core.specs.PathNames.{Names, names_of}
+-- What a calm step keeps at a path that it doesn't reach, and calm moves that leave a temporary file alone.
+use Rattle.std.proofs.{lemmas.Grind.{common_steps}, Common.{rules, ◌≡◌, ◌+◌, ℕ, Bool, true, false, cond, List, [], ◌∷◌, ◌++◌, Option, None, Some, refl, ◌∙◌, arith}}
+use Rattle.cacache_core.specs.Paths.{Names, names_of}
 use Rattle.cacache_store.specs.{declared.store.step.Step.TheVariants.{MakeDirs, CreateTemp, Write, Persist, Append, Symlink, Copy, Reflink, HardLink, RemoveFile, RemoveDir, SyncTemp, SyncFile, SyncDir}, Plain.{PlainStep, PlainAnswer}}
-use Rattle.cacache_disk.specs.{declared.{luck.Luck.{Luck}, node.Node.{Node, TheVariants.{Folder, File}}}, Tree.{Tree, look, cut, is_child}, Apply.{apply, make_some}}
-use Rattle.cacache_disk.proofs.{Changes.{MakeFolders, Makes, MoveFile, NoChange, PutNode, TreeChange, by_changes, made_by}, FoundNodes.{dirs_ok, free_ok, kept_ok, replaceable_ok}, Roots.{same_self}, KeptFolders.{steps_keep_rooted}}
-use Rattle.cacache_value.specs.{Kinds.{Content, Bucket, Temporary, Way, path_kind}, Placed.{Placed, Proper}, Traces.{Move}}
-use Rattle.cacache_value.proofs.{FoundPaths.{of_names}, Temps.{written}, Traces.{steps_keep_placed}}
-use Rattle.cacache_loss.specs.{Fixing.{Fixed, Fixing, file_after, file_synced, fixed_after, folder_synced, is_child_of, is_sync, is_synced, name_after, synced, temp_synced}, Moments.{EachMove, Moment, next}, LostTrees.{OfCache}, CalmMoves.{AreCalm, CalmStep, HandlesTemp, IsCalm, is_calm}, Syncs.{IsFolderSync}}
-use Rattle.cacache_loss.proofs.{StepCases.{cut_misses, make_keeps, put_misses}, UnchangedPaths.{at_false, Misses, rewrites_false, writes_false, moved_false, at_names, file_kept, name_kept}}
+use Rattle.cacache_disk.specs.{declared.{luck.Luck.{Luck}, node.Node.{Node, TheVariants.{Folder, File}}}, Tree.{Tree, look, cut}, Apply.{apply, make_some}}
+use Rattle.cacache_disk.proofs.{Changes.{MakeFolders, Makes, MoveFile, NoChange, PutNode, TreeChange, by_changes, made_by}, FoundNodes.{dirs_ok, free_ok, kept_ok, replaceable_ok}, KeptFolders.{steps_keep_rooted, is_child-snoc}}
+use Rattle.cacache_value.specs.{Kinds.{Content, Bucket, Temporary, Way, path_kind}, Placed.{Placed, Proper}, Acts.{Move}}
+use Rattle.cacache_value.proofs.{Applying.{of_names}, Temps.{written}, Traces.{steps_keep_placed}}
+use Rattle.cacache_loss.specs.{Fixing.{Fixed, Fixing, file_after, file_synced, fixed_after, is_sync, is_synced, name_after, synced, temp_synced, moved_to, moves_file, rewrites_at, writes_at}, Moments.{EachMove, Moment, next, AreCalm, CalmStep, HandlesTemp, IsCalm, is_calm}, LostTrees.{OfCache}, Syncs.{IsFolderSync, Leaves, LeavesStep, SpareTemp, Spares}, LossLaws.{SparedTempsAreLeft}}
+use Rattle.cacache_loss.proofs.{StepCases.{cut_misses, make_keeps, put_misses, make_apart}, Reaching.{at_false, Misses, rewrites_false, writes_false, moved_false, at_names, file_kept, name_kept}}
 
 module _ (home : Option Names) (t : Tree) (placed : Placed home t) (q : Names) (here : Option Node) (there : look t q ≡ here)
     (made : (names : Names) (count : ℕ) → path_kind home names ≡ Way → look (make_some t [] names count) q ≡ here) where
@@ -34,13 +33,11 @@ module _ (home : Option Names) (t : Tree) (placed : Placed home t) (q : Names) (
   -- what is fixed there stays as well
   pub files_keep : (fixed : Fixed) (step : PlainStep) (luck : Luck) (answer : PlainAnswer) → is_calm step ≡ true → Proper home step → Misses q step
       → file_after fixed t (apply t step luck).1 step answer q ≡ fixed.files q
-  files_keep fixed step luck answer calm is misses =
-      file_kept fixed t (apply t step luck).1 step answer q here there (keeps step luck calm is misses) (moved_false step answer q misses) (rewrites_false t step q calm) (writes_false step q misses)
+  files_keep fixed step luck answer calm is misses = search (rules, file_kept, keeps, moved_false, rewrites_false, writes_false)
 
   pub names_kept : (fixed : Fixed) (step : PlainStep) (luck : Luck) (answer : PlainAnswer) → is_calm step ≡ true → Proper home step → Misses q step
       → name_after fixed t (apply t step luck).1 step answer q ≡ fixed.names q
-  names_kept fixed step luck answer calm is misses =
-      name_kept fixed t (apply t step luck).1 step answer q here there (keeps step luck calm is misses) (moved_false step answer q misses)
+  names_kept fixed step luck answer calm is misses = search (rules, name_kept, keeps, moved_false)
 
 -- ---- syncs
 
@@ -62,8 +59,7 @@ each_calm home w (m ∷ moves) calm = ((calm.1.0, calm.0.0, calm.0.1), each_calm
 
 -- a whole file that is synced, or not, is whole
 pub cond_whole : (b : Bool) (all : List ℕ) (f : Fixing) → f.whole ≡ true → (cond b (synced all) f).whole ≡ true
-cond_whole true all f e = refl
-cond_whole false all f e = e
+cond_whole b all f e = grind (arith, common_steps)
 
 -- the tree stays that of a cache
 pub cache_next : (home : Option Names) (w : Moment) (m : Move) → OfCache home w → Proper home m.step → OfCache home (next w m)
@@ -71,25 +67,15 @@ cache_next home w m of_cache is = (steps_keep_placed home w.tree m.step m.luck o
 
 -- ---- names of folders
 
-pub child_of_self : (p : Names) (name : List ℕ) → is_child p (p ++ name ∷ []) ≡ true
-child_of_self p name =
-    let l : length (p ++ name ∷ []) ≡ length p + 1 = omega (arith, length-append p (name ∷ [])) in
-    let front : take (length p) (p ++ name ∷ []) ≡ p = take-append_seam p (name ∷ []) in
-    let same : pointwise (pointwise nat_eq) p p ≡ true = lists_ties (slice_cmp nat_cmp) texts_ties p p ∙ same_self p in
-    rw (eq-eqb (length (p ++ name ∷ [])) (length p + 1) l, front, same) refl
-
 pub cond_none : {A : Type 0} (b : Bool) (o : Option A) → o ≡ None → cond b None o ≡ None
-cond_none true o e = refl
-cond_none false o e = e
+cond_none b o e = grind (arith, common_steps)
 
 pub none_cond : {A : Type 0} (b : Bool) (o : Option A) → o ≡ None → cond b o None ≡ None
-none_cond true o e = e
-none_cond false o e = refl
+none_cond b o e = grind (arith, common_steps)
 
 -- what a sync fixes, or what was fixed
 cond_names : (b : Bool) (later fixed : Fixed) (q : Names) → later.names q ≡ None → fixed.names q ≡ None → (cond b later fixed).names q ≡ None
-cond_names true later fixed q new old = new
-cond_names false later fixed q new old = old
+cond_names b later fixed q new old = grind (arith, common_steps)
 
 -- every step misses the folders of the way
 way_misses : (home : Option Names) (q : Names) (step : PlainStep) → path_kind home q ≡ Way → Proper home step → HandlesTemp home step → Misses q step
@@ -106,13 +92,49 @@ pub fixed_next : (home : Option Names) (t : Tree) (fixed : Fixed) (q : Names) (s
     → (fixed_after fixed t (apply t step luck).1 step answer).names q ≡ None
 fixed_next home t fixed q (SyncTemp f) luck answer placed at there calm is e = cond_names (is_synced answer) (temp_synced fixed f) fixed q e e
 fixed_next home t fixed q (SyncFile p) luck answer placed at there calm is e = cond_names (is_synced answer) (file_synced fixed t p) fixed q e e
-fixed_next home t fixed q (SyncDir p) luck answer placed at there calm is e =
-    cond_names (is_synced answer) (folder_synced fixed p) fixed q (cond_none (is_child_of (names_of p) q) (fixed.names q) e) e
+fixed_next home t fixed q (SyncDir p) luck answer placed at there calm is e = search (rules, cond_names, cond_none)
 fixed_next home t fixed q step luck answer placed at there calm is e =
     names_kept home t placed q (Some Folder) there (λ names count way. make_keeps t [] names q Folder count there) fixed step luck answer calm.0 is (way_misses home q step at is calm.1) ∙ e
 
 -- a folder that is synced fixes its names
 pub sync_fixes : (d : Names) (name : List ℕ) (fixed : Fixed) (t new : Tree) (step : PlainStep) (answer : PlainAnswer) → IsFolderSync d step answer
     → (fixed_after fixed t new step answer).names (d ++ name ∷ []) ≡ None
-sync_fixes d name fixed t new (SyncDir p) answer is = rw (is.1, is.0, child_of_self d name) refl
+sync_fixes d name fixed t new (SyncDir p) answer is = rw (is.1, is.0, is_child-snoc d name) refl
 sync_fixes d name fixed t new step answer is = absurd is
+
+-- ---- calm moves that spare a temporary file leave it alone
+
+module _ (home : Option Names) (q : Names) (at : path_kind home q ≡ Temporary) where
+  misses : (step : PlainStep) → Proper home step → Spares q step → Misses q step
+  misses (CreateTemp p) is spares = spares
+  misses (Write f bytes) is spares = spares
+  misses (Persist f p) is spares = (spares, at_false home Content Temporary q (names_of p) is.1 at (λ e. cc))
+  misses (Append p bytes) is spares = at_false home Bucket Temporary q (names_of p) is.0 at (λ e. cc)
+  misses step is spares = tt
+
+  -- the four parts of being left, of any step
+  abbrev IsLeft : Tree → PlainStep → Tree → PlainAnswer → Type 0
+  IsLeft old step new answer =
+      (look new q ≡ look old q) × (writes_at step q ≡ false) × (rewrites_at old step q ≡ false) × (moved_to (moves_file step answer) q ≡ false)
+
+  step_left : (w : Moment) (step : PlainStep) (new : Tree) (answer : PlainAnswer) → IsLeft w.tree step new answer → LeavesStep q w step new answer
+  step_left w step new answer left = grind (arith, common_steps)
+
+  spared : (t : Tree) (step : PlainStep) (luck : Luck) (answer : PlainAnswer) → Placed home t → is_calm step ≡ true → Proper home step → Spares q step
+      → IsLeft t step (apply t step luck).1 answer
+  spared t step luck answer placed calm is spares = (
+    keeps home t placed q (look t q) refl (λ names count way. make_apart home Temporary t [] names q count at (λ e. cc) way) step luck calm is (misses step is spares),
+    writes_false step q (misses step is spares),
+    rewrites_false t step q calm,
+    moved_false step answer q (misses step is spares),
+  )
+
+  all_spared : (w : Moment) (moves : List Move) → OfCache home w → EachMove (IsCalm home) w moves → SpareTemp q moves → EachMove (Leaves q) w moves
+  all_spared w [] of_cache calm spares = tt
+  all_spared w (m ∷ moves) of_cache calm spares = (
+    step_left w m.step (next w m).tree m.answer (spared w.tree m.step m.luck m.answer of_cache.0 calm.0.0.0 calm.0.1 spares.0),
+    all_spared (next w m) moves (cache_next home w m of_cache calm.0.1) calm.1 spares.1,
+  )
+
+pub spared_temps_are_left : SparedTempsAreLeft
+spared_temps_are_left home q w moves at of_cache calm spares = all_spared home q at w moves of_cache (each_calm home w moves calm) spares

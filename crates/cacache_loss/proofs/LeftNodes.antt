@@ -1,27 +1,22 @@
 -- What the code leaves is what a loss leaves.
-use Rattle.std.proofs.{Common.{◌≡◌, ◌<◌, ◌==◌, ◌+◌, ℕ, Bool, true, false, cond, List, [], ◌∷◌, ◌++◌, Option, None, Some, length, get_or, take, drop, refl, sym, ap, ◌∙◌, arith, eqb-true}, lemmas.Bool.{and_right}}
-use Rattle.std.specs.{Prelude.{◌&&◌, filter, is_some, IfOk, Result, Ok, Err}, Bool.{nat_eq}, BTreeMap.{get, keys}, Cmp.Lexicographic.{pointwise}, Result.{result_ok}}
+use Rattle.std.proofs.{lemmas.{Grind.{common_steps}, Bool.{and_right}}, Common.{rules, ◌≡◌, ◌<◌, ◌==◌, ◌+◌, ℕ, Bool, true, false, cond, List, [], ◌∷◌, ◌++◌, Option, None, Some, length, get_or, take, drop, refl, sym, ap, ◌∙◌, arith}}
+use Rattle.std.specs.{Prelude.{◌&&◌, is_some, IfOk, Result}, Bool.{nat_eq}, BTreeMap.{get, keys}, Cmp.Lexicographic.{pointwise}, Result.{result_ok}}
 use Rattle.std.specs.FinMap as map
-use Rattle.cacache_core.specs.{declared.errors.Fault.TheVariants.{InvalidInput}, PathNames.{Names, home_of, is_bad, is_name, names_of, pieces}}
-use Rattle.cacache_disk.specs.{declared.node.Node.{Node}, Rooted.{is_folder}, Tree.{Tree, look, names_cmp, put, same_path}}
-use Rattle.cacache_disk.proofs.{Maps.{same_path-true}, PathFolders.{drop_here, front_next}, PutNodes.{look-put}}
-use Rattle.cacache_loss.specs.{declared.left.Losing.{Losing}, Fixing.{Place}, Loss.{Lost, begins, lead_folders}, Losing.{loss_of, lost_of}, Reached.{is_among}, Running.{moment_of}}
+use Rattle.cacache_core.specs.Paths.{Names, home_of, names_of, pieces}
+use Rattle.cacache_disk.specs.{declared.node.Node.{Node}, Tree.{is_folder, Tree, look, names_cmp, put, same_path}}
+use Rattle.cacache_disk.proofs.{Maps.{same_path-true}, PathTexts.{drop_here, front_next}, PutNodes.{look-put}}
+use Rattle.cacache_loss.specs.{declared.left.Losing.{Losing}, Fixing.{Place}, Loss.{Lost, begins, lead_folders}, Running.{loss_of, lost_of, moment_of}, Reached.{is_among}}
 use Rattle.cacache_loss.proofs.{ChangedNames.{none_left_at, not_among, not_there}, PathMaps.{keys_among, settled_more}, KeptPaths.{none_cond}}
 
 -- ---- the cache's folder
 
 pub home_empty : (cache : List ℕ) → (length cache == 0) ≡ true → Some [] ≡ home_of cache
 unfolding home_of pieces
-home_empty [] e = refl
-home_empty (b ∷ cache) e = absurd (omega (arith, eqb-true (length (b ∷ cache)) 0 e))
+home_empty cache e = grind (arith, common_steps)
 
 pub home_named : (path : List ℕ) → (length path == 0) ≡ false → home_of path ≡ result_ok (names_of path)
 unfolding names_of home_of
-home_named path e = rw e (by (is_bad path) (filter is_name (pieces path)))
-  where
-    by : (b : Bool) (names : Names) → cond b None (Some names) ≡ result_ok (cond b (Err InvalidInput) (Ok names))
-    by true names = refl
-    by false names = refl
+home_named path e = search rules
 
 pub begins_front : (path home : Names) → pointwise (pointwise nat_eq) path (take (length path) home) ≡ begins path home
 begins_front [] home = refl
@@ -43,8 +38,7 @@ leads_next left path i above below is =
 -- ---- the nodes that are left
 
 none_again : (lost : Names → Option Node) (p q : Names) (a b : Bool) → same_path q p ≡ b → lost p ≡ None → cond a (lost q) None ≡ cond b (lost p) (cond a (lost q) None)
-none_again lost p q a true is none = none_cond a (lost q) (ap lost (same_path-true q p is) ∙ none) ∙ sym none
-none_again lost p q a false is none = refl
+none_again lost p q a b is none = grind (arith, none_cond, same_path-true)
 
 pub left_none : (lost : Names → Option Node) (t : Tree) (paths : List Names) (i : ℕ) (p : Names) → i < length paths → p ≡ get_or paths i p → lost p ≡ None
     → ((q : Names) → look t q ≡ cond (is_among q (take i paths)) (lost q) None)
@@ -80,5 +74,4 @@ left_all l t paths is so q =
 pub left_ok : {E : Type 0} (l : Losing) (paths : List Names) (r : Result Tree E) → paths ≡ map.keys l.running.disk ++ keys l.running.names
     → IfOk r (λ t. (q : Names) → look t q ≡ cond (is_among q paths) (lost_of l q) None)
     → IfOk r (λ t. Lost l.home (moment_of l.running).tree (moment_of l.running).fixed (loss_of l.taken) t)
-left_ok l paths (Ok t) is so = left_all l t paths is so
-left_ok l paths (Err e) is so = tt
+left_ok l paths r is so = grind (arith, left_all)

@@ -1,5 +1,4 @@
 pub mod StepCases
-pub mod UnchangedPaths
 pub mod KeptPaths
 pub mod SyncedFolders
 pub mod LostTrees
@@ -7,9 +6,6 @@ pub mod ChangedNames
 pub mod Contents
 pub mod Buckets
 pub mod Commits
-pub mod SparedTemps
-pub mod CommitFolders
-pub mod LostValues
 pub mod LossCases
 pub mod PathMaps
 pub mod Reaching

@@ -1,9 +1,9 @@
 -- Maps by path, one path after another.
-use Rattle.std.proofs.{Common.{◌≡◌, ◌<◌, ◌≤◌, ◌+◌, ℕ, Bool, true, false, cond, List, [], ◌∷◌, ◌++◌, Option, None, Some, Ok, length, get_or, take, drop, refl, sym, ap, ◌∙◌, arith}, lemmas.{List.{take_more, drop_all, take_all, get_or-map, Folds.{list_any-append}}, Map.Entries.{lookup-filter-keys}}}
+use Rattle.std.proofs.{Common.{◌≡◌, ◌<◌, ◌+◌, ℕ, Bool, true, false, cond, List, [], ◌∷◌, ◌++◌, Option, None, Some, Ok, length, get_or, take, drop, refl, sym, ap, ◌∙◌}, lemmas.{List.{take_more, get_or-map, Folds.{list_any-append}}, Map.Entries.{lookup-filter-keys}}}
 use Rattle.std.specs.{Prelude.{◌||◌, map, filter, not, Result, Err, OnOk, is_some, unwrap_or}, Cmp.{eq_by_cmp_equiv}, BTreeMap.{BTreeMap, get}, Map.{lookup, keys_of}, Result.{result_ok}}
 use Rattle.std.specs.BTreeMap as btree
 use Rattle.cacache_core.specs.declared.errors.Fault.{Fault}
-use Rattle.cacache_disk.proofs.{Maps.{total, same_path-true}, PathFolders.{drop_here, front_next}}
+use Rattle.cacache_disk.proofs.{Maps.{total, same_path-true}, PathTexts.{drop_here, front_next}}
 use Rattle.cacache_disk.specs.{LedTo.{leads}, Tree.{Tree, Names, names_cmp, same_path, look, bytes_of, is_child}}
 use Rattle.cacache_loss.specs.{Fixing.{Fixing, Place, renamed, synced, is_at, is_child_of}, Reached.{fronts, is_among}, Running.{files_in, fixing_by, renames, FilesSettleAt, NamesSettleAt}, declared.effect.Effect.{Effect}}
 
@@ -77,11 +77,6 @@ settled_more f old paths i p q below is =
     once_more f old p q (is_among q (take i paths)) (same_path q p) refl
     ∙ ap (λ b. cond b (f q) (old q)) (ap (λ r. is_among q (take i paths) || same_path q r) is ∙ sym (among_more paths i q p below))
 
--- at all of them
-pub settled_all : {A : Type 0} (f old : Names → A) (paths : List Names) (i : ℕ) (q : Names) → length paths ≤ i
-    → cond (is_among q (take i paths)) (f q) (old q) ≡ cond (is_among q paths) (f q) (old q)
-settled_all f old paths i q end = ap (λ xs. cond (is_among q xs) (f q) (old q)) (take_all i paths (omega (arith, end)))
-
 -- ---- the paths on the way
 
 pub fronts_more : (paths : List Names) (path : Names) (i : ℕ) (front : Names) → i < length path → front ≡ take (i + 1) path
@@ -96,14 +91,6 @@ fronts_more paths path i front below is =
 
     here : fronts (take i path) (drop i path) ≡ front ∷ fronts (take (i + 1) path) (drop (i + 1) path)
     here = ap (fronts (take i path)) (drop_here path i [] below) ∙ rw (front_next path i [] below, is) refl
-
-pub fronts_all : (paths : List Names) (path : Names) (i : ℕ) → length path ≤ i → paths ++ fronts (take i path) (drop i path) ≡ fronts [] path → paths ≡ fronts [] path
-fronts_all paths path i end e =
-    sym (nothing_more paths) ∙ ap (λ rest. paths ++ fronts (take i path) rest) (sym (drop_all i path (omega (arith, end)))) ∙ e
-  where
-    nothing_more : (xs : List Names) → xs ++ [] ≡ xs
-    nothing_more [] = refl
-    nothing_more (x ∷ xs) = ap (λ ys. x ∷ ys) (nothing_more xs)
 
 -- ---- the end of a path
 

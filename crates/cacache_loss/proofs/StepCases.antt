@@ -1,12 +1,12 @@
 -- What a calm step does to a path of the cache.
-use Rattle.std.proofs.{Common.{◌≡◌, ◌-◌, ◌==◌, ℕ, Bool, true, false, cond, List, [], ◌∷◌, ◌++◌, Option, None, Some, Ok, Err, take, refl, sym, ap, ◌∙◌}, lemmas.Bool.{false_from_ne_true}}
+use Rattle.std.proofs.{lemmas.{Grind.{common_steps}, Bool.{false_from_ne_true}}, Common.{rules, arith, ◌≡◌, ◌-◌, ◌==◌, ℕ, Bool, true, false, cond, List, [], ◌∷◌, ◌++◌, Option, None, Some, Ok, Err, take, refl, sym, ap, ◌∙◌}}
 use Rattle.std.specs.Prelude.{Result, IfOk}
-use Rattle.cacache_core.specs.{declared.errors.Fault.{Fault}, PathNames.{Names, names_of}}
+use Rattle.cacache_core.specs.{declared.errors.Fault.{Fault}, Paths.{Names, names_of}}
 use Rattle.cacache_store.specs.{declared.store.{plain.PlainTemp.{PlainTemp}, step.Step.TheVariants.{MakeDirs, CreateTemp, Persist, Append}, answer.Answer.TheVariants.{Done, Took, Failed}}, Plain.{PlainStep, PlainAnswer}}
-use Rattle.cacache_disk.specs.{declared.{luck.Luck.{Luck, TheVariants.{Plain, Fail, Take}}, node.Node.{Node, TheVariants.{Folder, File}}}, Tree.{Tree, look, put, cut, same_path, bytes_of}, LedTo.{dirs, free, known, kept, replaceable, writable}, Apply.{apply, plain, unless, making, make_some, if_missing, fails, fault_told}}
+use Rattle.cacache_disk.specs.{declared.{luck.Luck.{Luck, TheVariants.{Plain, Fail, Take}}, node.Node.{Node, TheVariants.{Folder, File}}}, Tree.{Tree, look, put, cut, same_path, bytes_of}, LedTo.{free, known, kept, replaceable, writable}, Apply.{apply, plain, unless, make_some, if_missing, fails, fault_told}}
 use Rattle.cacache_disk.proofs.{Maps.{same_path-true}, PutNodes.{look-put, look-cut}, Changes.{apply_tree, unless_tree}, FoundNodes.{dirs_ok, free_ok, kept_ok, replaceable_ok}}
 use Rattle.cacache_value.specs.{Kinds.{Bucket, path_kind, IsFor, PathKind, Way}, Placed.{Placed}}
-use Rattle.cacache_value.proofs.{KindsApart.{further, way_here}, FoundPaths.{Reaches, found, missing, bucket_reached, unreachable}, Steps.{known_ok}}
+use Rattle.cacache_value.proofs.{PathKinds.{further, way_here}, Applying.{Reaches, found, missing, bucket_reached, unreachable}, Steps.{known_ok}}
 
 -- what is at another path stays
 pub put_misses : (t : Tree) (p q : Names) (node : Node) → same_path q p ≡ false → look (put t p node) q ≡ look t q
@@ -19,10 +19,7 @@ cut_misses t p q misses = look-cut t p q ∙ ap (λ b. cond b None (look t q)) m
 
 make_one : (t : Tree) (p q : Names) (here : Option Node) (node : Node) (b c : Bool) → look t p ≡ here → look t q ≡ Some node → same_path q p ≡ c
     → look (if_missing here (cond b t (put t p Folder)) t) q ≡ Some node
-make_one t p q None node true c is e same = e
-make_one t p q None node false true is e same = let none : None ≡ Some node = sym is ∙ ap (look t) (sym (same_path-true q p same)) ∙ e in absurd cc
-make_one t p q None node false false is e same = look-put t p Folder q ∙ ap (λ b. cond b (Some Folder) (look t q)) same ∙ e
-make_one t p q (Some n) node b c is e same = e
+make_one t p q here node b c is e same = grind (arith, same_path-true, look-put)
 
 pub make_keeps : (t : Tree) (above rest q : Names) (node : Node) (count : ℕ) → look t q ≡ Some node → look (make_some t above rest count) q ≡ Some node
 make_keeps t above [] q node count e = e
@@ -32,9 +29,7 @@ make_keeps t above (name ∷ rest) q node count e =
 
 -- no folder is made at a path that isn't on the way
 pub made_or_there : (t : Tree) (p q : Names) (here : Option Node) (b : Bool) → same_path q p ≡ false → look (if_missing here (cond b t (put t p Folder)) t) q ≡ look t q
-made_or_there t p q None true misses = refl
-made_or_there t p q None false misses = put_misses t p q Folder misses
-made_or_there t p q (Some node) b misses = refl
+made_or_there t p q here b misses = grind (arith, put_misses)
 
 pub make_apart : (home : Option Names) (l : PathKind) (t : Tree) (above rest q : Names) (count : ℕ) → path_kind home q ≡ l → (l ≡ Way → ⊥) → path_kind home (above ++ rest) ≡ Way
     → look (make_some t above rest count) q ≡ look t q
@@ -50,13 +45,11 @@ make_apart home l t above (name ∷ rest) q count at apart way =
 
 unless_case : {A : Type 0} (P : PlainAnswer × Tree → Type 0) (t : Tree) (r : Result A Fault) (go : A → PlainAnswer × Tree)
     → ((fault : Fault) → P (Failed fault, t)) → ((a : A) → r ≡ Ok a → P (go a)) → P (unless r t go)
-unless_case P t (Ok a) go h k = k a refl
-unless_case P t (Err fault) go h k = h fault
+unless_case P t r go h k = grind (arith, common_steps)
 
 fails_case : (P : PlainAnswer × Tree → Type 0) (t left : Tree) (own : Option Fault) (fault : Fault)
     → ((fault : Fault) → P (Failed fault, t)) → ((fault : Fault) → P (Failed fault, left)) → P (fails own fault t left)
-fails_case P t left None fault h k = k _
-fails_case P t left (Some own) fault h k = h own
+fails_case P t left own fault h k = grind (arith, common_steps)
 
 pub data PersistCase (t : Tree) (f : PlainTemp) (p : List ℕ) (o : PlainAnswer × Tree) : Type 0 where
   refused : (fault : Fault) → o ≡ (Failed fault, t) → PersistCase t f p o
@@ -127,8 +120,7 @@ module _ (t : Tree) (q : Names) (here : Option Node) (there : look t q ≡ here)
   asked_keeps r answer = unless_tree Same r t (λ a. (answer a, t)) there (λ a is. there)
 
   pub dirs_keep : (p : List ℕ) (luck : Luck) → ((names : Names) (count : ℕ) → names_of p ≡ Ok names → Same (make_some t [] names count)) → Same (apply t (MakeDirs p) luck).1
-  dirs_keep p luck made =
-      step_keeps (MakeDirs p) luck (λ most. unless_tree Same (dirs t p) t _ there (λ names found. made names (making most names) (dirs_ok t p names found)))
+  dirs_keep p luck made = search (rules, step_keeps, unless_tree, found, dirs_ok)
 
   pub temp_keeps : (p : List ℕ) (luck : Luck) → ((names : Names) → names_of p ≡ Ok names → same_path q names ≡ false) → Same (apply t (CreateTemp p) luck).1
   temp_keeps p luck misses =

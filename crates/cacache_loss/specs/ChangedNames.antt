@@ -1,8 +1,8 @@
 -- Which names changed since their folders were synced: finitely many, so a loss leaves a tree.
 use Rattle.std.specs.{Prelude.{◌≡◌, List, [], Option, None, false}, List.{list_any}}
-use Rattle.cacache_core.specs.PathNames.{Names}
-use Rattle.cacache_disk.specs.{Rooted.{Rooted}, Tree.{Tree, same_path}}
-use Rattle.cacache_value.specs.{Placed.{Placed}, Shows.{ReadsShow}, Traces.{Move, IsTrace}}
+use Rattle.cacache_core.specs.Paths.{Names}
+use Rattle.cacache_disk.specs.Tree.{Rooted, Tree, same_path}
+use Rattle.cacache_value.specs.{Placed.{Placed}, Shows.{ReadsShow}, Acts.{Move, IsTrace}}
 use Rattle.cacache_loss.specs.{Fixing.{Fixed, all_fixed}, Loss.{Loss, Lost}, Moments.{Moment, after}}
 
 -- ---- names that changed

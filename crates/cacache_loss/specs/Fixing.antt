@@ -1,6 +1,6 @@
 -- What of a tree would outlast a loss of power: a second fold over steps, next to the tree.
 use Rattle.std.specs.Prelude.{ℕ, List, [], Option, None, Some, Bool, true, false, not, ◌||◌, Result, Ok, Err, length, unwrap_or, bytes_eq, if◌then◌else◌}
-use Rattle.cacache_core.specs.{declared.errors.Fault.{Fault}, PathNames.{Names, names_of}}
+use Rattle.cacache_core.specs.{declared.errors.Fault.{Fault}, Paths.{Names, names_of}}
 use Rattle.cacache_store.specs.{declared.store.{plain.PlainTemp.{PlainTemp}, step.Step.TheVariants.{Write, Persist, Copy, SyncTemp, SyncFile, SyncDir}, answer.Answer.TheVariants.{Done, Synced}}, Plain.{PlainStep, PlainAnswer}}
 use Rattle.cacache_disk.specs.{declared.node.Node.{Node, TheVariants.{Folder, File, Link}}, Tree.{Tree, look, same_path, is_child, bytes_of}, LedTo.{leads, writable}}
 pub use Rattle.cacache_loss.specs.declared.fixing.Fixing.{Fixing}

@@ -3,13 +3,9 @@ pub mod Loss
 pub mod Moments
 pub mod Reached
 pub mod Running
-pub mod Chosen
-pub mod Losing
 pub mod LostTrees
 pub mod ChangedNames
-pub mod CalmMoves
 pub mod Syncs
-pub mod CommitFolders
 pub mod LossLaws
 pub mod LostValues
 pub mod LossCases

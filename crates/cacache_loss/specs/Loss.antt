@@ -1,7 +1,7 @@
 -- What a loss of power leaves of a tree.
 use Rattle.std.specs.Prelude.{◌≡◌, ℕ, List, [], ◌∷◌, ◌++◌, Option, None, Some, Bool, true, false, ◌&&◌, not, take, unwrap_or, bytes_eq, if◌then◌else◌}
-use Rattle.cacache_core.specs.PathNames.{Names}
-use Rattle.cacache_disk.specs.{declared.node.Node.{Node, TheVariants.{Folder, File, Link}}, Rooted.{is_folder}, Tree.{Tree, look}}
+use Rattle.cacache_core.specs.Paths.{Names}
+use Rattle.cacache_disk.specs.{declared.node.Node.{Node, TheVariants.{Folder, File, Link}}, Tree.{is_folder, Tree, look}}
 use Rattle.cacache_loss.specs.Fixing.{Fixing, Place, Fixed, place_now}
 
 -- a loss: which names are as they were, and what follows the fixed bytes of each open file

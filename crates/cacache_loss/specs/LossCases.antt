@@ -1,6 +1,6 @@
 -- Single cases of losses, which show that the definitions say what they should.
 use Rattle.std.specs.Prelude.{◌≡◌, List, ℕ, Option, None, Some, true, false, codes, Ok}
-use Rattle.cacache_core.specs.{declared.errors.Fault.{Fault}, PathNames.{Names, names_of}}
+use Rattle.cacache_core.specs.{declared.errors.Fault.{Fault}, Paths.{Names, names_of}}
 use Rattle.cacache_store.specs.{declared.store.{plain.PlainTemp.{PlainTemp}, step.Step.TheVariants.{Persist}, answer.Answer.TheVariants.{Done, Failed}}, Plain.{PlainStep}}
 use Rattle.cacache_disk.specs.{declared.node.Node.TheVariants.{File}, Tree.{Tree, look}}
 use Rattle.cacache_loss.specs.{Fixing.{Fixing, Fixed, unsynced, synced, refixed, same_node, same_thing, is_sync, fixed_after}, Loss.{Loss, stays, bytes_left, lost_at}}

@@ -1,11 +1,11 @@
 -- The laws of losses: what a durable commit put and wrote is there after each loss of power.
 use Rattle.std.specs.Prelude.{◌≡◌, ℕ, List, [], ◌∷◌, ◌++◌, Option, None, Some, Ok, fold, true}
-use Rattle.cacache_core.specs.{declared.integrity.digest.Hash.{Hash}, Digests.{digest}, Integrity.{hash_of}, PathNames.{Names, names_of}}
+use Rattle.cacache_core.specs.{declared.integrity.digest.Hash.{Hash}, Integrity.{digest, hash_of}, Paths.{Names, names_of}}
 use Rattle.cacache_store.specs.declared.store.plain.PlainTemp.{PlainTemp}
 use Rattle.cacache_disk.specs.{declared.node.Node.{Node, TheVariants.{Folder, File, Link}}, Tree.{look, bytes_of}}
-use Rattle.cacache_entry.specs.{Entry.{Entry, closed_line}, FittingEntries.{IsEntry, IsWritable}, Bucket.{entries_of}, Latest.{Found, answer_to, after_entry, latest, NoneAnswers}}
-use Rattle.cacache_value.specs.{Kinds.{Content, Bucket, Temporary, path_kind}, Traces.{Move}, Value.{bucket_in}}
-use Rattle.cacache_loss.specs.{Fixing.{Place, place_now}, Loss.{Loss}, Moments.{Moment, next, after, lost_then, EachMove}, LostTrees.{OfCache}, CalmMoves.{IsCalm, AreCalm, PutWell}, Syncs.{SyncsFolders, SyncsFile, IsFileSync, IsAppend, IsTempSync, Leaves, SpareTemp, IsPut}}
+use Rattle.cacache_entry.specs.{Entry.{Entry, closed_line}, FittingEntries.{IsEntry, IsWritable}, Bucket.{entries_of, Found, answer_to, after_entry, latest, NoneAnswers}}
+use Rattle.cacache_value.specs.{Kinds.{Content, Bucket, Temporary, path_kind}, Acts.{Move}, Value.{bucket_in}}
+use Rattle.cacache_loss.specs.{Fixing.{Place, place_now}, Loss.{Loss}, Moments.{Moment, next, after, lost_then, EachMove, IsCalm, AreCalm, PutWell}, LostTrees.{OfCache}, Syncs.{SyncsFolders, SyncsFile, IsFileSync, IsAppend, IsTempSync, Leaves, SpareTemp, IsPut}}
 
 -- ---- contents
 

@@ -1,8 +1,8 @@
 -- The tree of each moment is that of a cache, and so is what a loss leaves of it.
 use Rattle.std.specs.Prelude.{◌≡◌, List, Option, IfSome}
-use Rattle.cacache_core.specs.PathNames.{Names}
-use Rattle.cacache_disk.specs.{declared.node.Node.{Node}, Rooted.{AreProper, Rooted}, Tree.{Tree, look}}
-use Rattle.cacache_value.specs.{Kinds.{path_kind}, Placed.{MayStand, Placed}, Traces.{Move, IsTrace, tree_after}}
+use Rattle.cacache_core.specs.Paths.{Names}
+use Rattle.cacache_disk.specs.{declared.node.Node.{Node}, Tree.{AreProper, Rooted, Tree, look}}
+use Rattle.cacache_value.specs.{Kinds.{path_kind}, Placed.{MayStand, Placed}, Acts.{Move, IsTrace, tree_after}}
 use Rattle.cacache_loss.specs.{Fixing.{Fixed, all_fixed}, Loss.{Loss, Lost, lost_at}, Moments.{Moment, after}}
 
 -- a tree of a cache: each node is where it may be, and in a folder

@@ -1,6 +1,6 @@
 -- What a cache holds in the tree that a loss leaves.
 use Rattle.std.specs.Prelude.{◌≡◌, ℕ, List, ◌++◌, Some}
-use Rattle.cacache_core.specs.{declared.integrity.digest.Hash.{Hash}, PathNames.{Names}, Paths.{content_names, bucket_names_of}}
+use Rattle.cacache_core.specs.{declared.integrity.digest.Hash.{Hash}, Paths.{Names, content_names, bucket_names_of}}
 use Rattle.cacache_disk.specs.Tree.{Tree}
 use Rattle.cacache_entry.specs.Entry.{Entry}
 use Rattle.cacache_value.specs.Value.{InFile, Value, value_of_tree}

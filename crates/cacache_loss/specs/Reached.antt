@@ -1,6 +1,6 @@
 -- Where a step may change something: the paths that it names, or that these lead to.
 use Rattle.std.specs.{Prelude.{List, [], ◌∷◌, Option, None, Some}, Result.{result_ok}}
-use Rattle.cacache_core.specs.PathNames.{Names, names_of}
+use Rattle.cacache_core.specs.Paths.{Names, names_of}
 use Rattle.cacache_store.specs.{declared.store.step.Step.TheVariants.{MakeDirs, CreateTemp, Write, Persist, Append, Symlink, Copy, Reflink, HardLink, RemoveFile, RemoveDir}, Plain.{PlainStep}}
 use Rattle.cacache_disk.specs.{LedTo.{writable}, Tree.{Tree}}
 pub use Rattle.cacache_disk.specs.Tree.{fronts, is_among}

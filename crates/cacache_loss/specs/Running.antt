@@ -1,10 +1,23 @@
--- What the code keeps of a moment, and what a step does to it.
-use Rattle.std.specs.{Prelude.{◌≡◌, map, Bool, true, false, ◌||◌, not, List, Option, None, Some, unwrap_or, is_some, if◌then◌else◌}, BTreeMap.{BTreeMap, get}}
-use Rattle.cacache_core.specs.PathNames.{Names}
+-- What the code keeps of a moment, what it takes a loss for, and what it leaves.
+use Rattle.std.specs.{Prelude.{ℕ, List, [], ◌∷◌, if◌then◌else◌, ◌≡◌, map, Bool, true, false, ◌||◌, not, Option, None, Some, unwrap_or, is_some}, List.{list_any}, BTreeMap.{BTreeMap, get}, BTreeSet.{contains}}
+use Rattle.cacache_core.specs.Paths.{Names, names_of}
+use Rattle.cacache_loss.specs.{Fixing.{is_at, Fixing, Place, Fixed, synced, refixed, opened_if, same_node, same_thing, moves_file, renamed}, Loss.{Loss, left_at}, declared.{effect.Effect.{Effect}, running.Running.{Running}, loss.Taken.{Taken}, left.Losing.{Losing}}, Moments.{Moment, lost_then}, Reached.{is_among}}
 use Rattle.cacache_store.specs.{declared.store.{step.Step.TheVariants.{Write, Persist, Copy}, answer.Answer.TheVariants.{Done}}, Plain.{PlainStep, PlainAnswer}}
 use Rattle.cacache_disk.specs.{declared.{luck.Luck.{Luck}, node.Node.{Node}}, Tree.{Tree, look, names_cmp, same_path, bytes_of}}
-use Rattle.cacache_value.specs.Traces.{Move}
-use Rattle.cacache_loss.specs.{declared.{effect.Effect.{Effect}, running.Running.{Running}}, Fixing.{Fixing, Place, Fixed, synced, refixed, opened_if, same_node, same_thing, moves_file, renamed}, Moments.{Moment}, Reached.{is_among}}
+use Rattle.cacache_value.specs.Acts.{Move}
+
+-- the tail of a path from the first of these texts that names it, none if none does
+abbrev pub tail_at : List (List ℕ × List ℕ) → Names → List ℕ
+tail_at [] path = []
+tail_at (file ∷ files) path =
+    if is_at (names_of file.0) path then file.1 else tail_at files path
+
+-- the loss in which these names are undone, and these tails follow
+abbrev pub chosen : List (List ℕ) → List (List ℕ × List ℕ) → Loss
+chosen undone tails = record {
+  undone = λ path. list_any (λ text. is_at (names_of text) path) undone;
+  tail = tail_at tails;
+}
 
 -- ---- what is kept
 
@@ -103,3 +116,22 @@ FilesSettle e t paths places old new = FilesSettleAt e t paths places paths old 
 abbrev pub NamesSettle : Effect → Tree → List Names → List Place → (Names → Option Place)
     → (Names → Option Place) → Type 0
 NamesSettle e t paths places old new = NamesSettleAt e t paths places paths old new
+
+-- ---- what the code takes a loss for, and what it leaves
+
+-- the loss in which these paths are undone, and these tails follow
+abbrev pub loss_of : Taken → Loss
+loss_of taken = record {
+  undone = contains names_cmp taken.undone;
+  tail = λ path. unwrap_or (get names_cmp taken.tails path) [];
+}
+
+-- what is left at a path, if its folder is left
+abbrev pub left_of : Losing → Names → Place
+left_of l =
+    left_at l.home l.running.disk (fixed_in l.running.first l.running.files l.running.names)
+    (loss_of l.taken)
+
+-- what is at a path after the loss
+abbrev pub lost_of : Losing → Names → Option Node
+lost_of l path = lost_then l.home (moment_of l.running) (loss_of l.taken) path

@@ -1,9 +1,9 @@
--- The moves of a durable commit: syncs of files and folders, an append, a file that is put.
-use Rattle.std.specs.Prelude.{◌≡◌, ◌⊎◌, ℕ, List, [], ◌∷◌, ◌++◌, Option, true, false, Ok, length}
-use Rattle.cacache_core.specs.PathNames.{Names, names_of}
+-- The moves of a durable commit: syncs of files and of the folders of contents and buckets, an append, a file that is put.
+use Rattle.std.specs.Prelude.{◌≡◌, ◌⊎◌, ℕ, List, [], ◌∷◌, ◌++◌, Option, true, false, Ok, length, Some}
+use Rattle.cacache_core.specs.{Paths.{Names, names_of, content_names, bucket_names_of, folders_to}, declared.integrity.digest.Hash.{Hash}, Integrity.{IsHash}, Laws.{IsKeyDigest}}
 use Rattle.cacache_store.specs.{declared.store.{plain.PlainTemp.{PlainTemp}, step.Step.TheVariants.{CreateTemp, Write, Persist, Append, SyncTemp, SyncFile, SyncDir}, answer.Answer.TheVariants.{Done, Took}}, Plain.{PlainStep, PlainAnswer}}
 use Rattle.cacache_disk.specs.Tree.{Tree, look}
-use Rattle.cacache_value.specs.Traces.{Move}
+use Rattle.cacache_value.specs.Acts.{Move}
 use Rattle.cacache_loss.specs.{Fixing.{is_at, is_synced, writes_at, rewrites_at, moved_to, moves_file}, Loss.{stays}, Moments.{Moment, next}}
 
 -- ---- folders that are synced
@@ -81,3 +81,45 @@ SpareTemp temp (m ∷ moves) = Spares temp m.step × SpareTemp temp moves
 abbrev pub IsPut : PlainTemp → Names → PlainStep → PlainAnswer → Type 0
 IsPut f path (Persist g p) answer = (g ≡ f) × (names_of p ≡ Ok path) × (answer ≡ Done)
 IsPut f path step answer = ⊥
+
+-- ---- the folders of a content and of a bucket that a durable commit syncs and waits for
+
+-- one of these moves syncs the folder of this text
+abbrev pub SyncsText : List ℕ → List Move → Type 0
+SyncsText p [] = ⊥
+SyncsText p (m ∷ moves) = ((m.step ≡ SyncDir p) × (m.answer ≡ Done)) ⊎ SyncsText p moves
+
+-- the folder of each of these texts is synced, in any order
+abbrev pub SyncsTexts : List (List ℕ) → List Move → Type 0
+SyncsTexts [] moves = Unit {0}
+SyncsTexts (p ∷ texts) moves = SyncsText p moves × SyncsTexts texts moves
+
+-- the folders from the cache's own down are enough: those above it stay
+abbrev pub OwnFoldersAreEnough : Type 0
+OwnFoldersAreEnough =
+    (home rest : Names) (moves : List Move) → SyncsFolders (Some home) home rest moves
+    → SyncsFolders (Some home) [] (home ++ rest) moves
+
+-- so for a content five are enough: from the cache's own folder down to the content's
+pub record ContentFolders (cache : List ℕ) (home : Names) (address : Hash) : Type 0 where
+  pub five : length (folders_to cache (content_names address)) ≡ 5
+  pub enough : (moves : List Move) → SyncsTexts (folders_to cache (content_names address)) moves
+      → SyncsFolders (Some home) [] (home ++ content_names address) moves
+
+-- and for a bucket four
+pub record BucketFolders (cache : List ℕ) (home : Names) (digest : List ℕ) : Type 0 where
+  pub four : length (folders_to cache (bucket_names_of digest)) ≡ 4
+  pub enough : (moves : List Move) → SyncsTexts (folders_to cache (bucket_names_of digest)) moves
+      → SyncsFolders (Some home) [] (home ++ bucket_names_of digest) moves
+
+-- the folders of every content, if the cache's text names a folder
+abbrev pub FiveForContents : Type 0
+FiveForContents =
+    (cache : List ℕ) (home : Names) (address : Hash) → names_of cache ≡ Ok home → IsHash address
+    → ContentFolders cache home address
+
+-- the folders of every bucket
+abbrev pub FourForBuckets : Type 0
+FourForBuckets =
+    (cache : List ℕ) (home : Names) (digest : List ℕ) → names_of cache ≡ Ok home
+    → IsKeyDigest digest → BucketFolders cache home digest

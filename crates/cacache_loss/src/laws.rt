@@ -1,5 +1,5 @@
 //! The laws of losses of power, each on a function that does nothing.
-ghost use Rattle.cacache_loss.specs.{LossLaws.{ContentsSurvive, CommitsSurvive, FoundSurvive, SparedTempsAreLeft, BucketsSurvive, EntriesSurvive, LookupsSurvive}, LostTrees.{MomentsFollowTrees, OpeningsStandWell, MovesKeepMoments, LossesLeaveTrees, FixedTreesStay}, ChangedNames.{OpeningsChangedNone, MovesChangeFew, LossesLeaveOneTree, HistoriesLeaveCaches}, CommitFolders.{OwnFoldersAreEnough, FiveForContents, FourForBuckets}, LostValues.{ContentsAreHeld, EntriesAreHeld}, LossCases.{LossRows, UndonePutsGo, FailedSyncsFixNothing}};
+ghost use Rattle.cacache_loss.specs.{LossLaws.{ContentsSurvive, CommitsSurvive, FoundSurvive, SparedTempsAreLeft, BucketsSurvive, EntriesSurvive, LookupsSurvive}, LostTrees.{MomentsFollowTrees, OpeningsStandWell, MovesKeepMoments, LossesLeaveTrees, FixedTreesStay}, ChangedNames.{OpeningsChangedNone, MovesChangeFew, LossesLeaveOneTree, HistoriesLeaveCaches}, Syncs.{OwnFoldersAreEnough, FiveForContents, FourForBuckets}, LostValues.{ContentsAreHeld, EntriesAreHeld}, LossCases.{LossRows, UndonePutsGo, FailedSyncsFixNothing}};
 
 /// What a durable commit put and wrote is there after each loss of power, while others make calm
 /// steps: its content, its line of the bucket, and what a lookup finds by it.
@@ -25,7 +25,7 @@ pub fn tree_laws()
 
 /// A loss leaves one tree, since finitely many names change: at each moment of a history that
 /// begins with a cache's tree, it is one of a cache, and reading steps show what that holds.
-pub fn history_laws()
+pub fn loss_history_laws()
     ensures none { OpeningsChangedNone }
     ensures few { MovesChangeFew }
     ensures one { LossesLeaveOneTree }

@@ -1,9 +1,9 @@
 //! What a loss of power leaves.
 ghost use Rattle.std.specs.{Prelude.{◌≡◌, ◌&&◌, ◌++◌, [], not, None, IfOk, option_copied, unwrap_or, if◌then◌else◌}, BTreeMap.{keys}};
 ghost use Rattle.std.specs.FinMap as map;
-ghost use Rattle.cacache_core.specs.PathNames.{home_of};
-ghost use Rattle.cacache_disk.specs.{Rooted.{is_folder}, Tree.{look, Names}};
-ghost use Rattle.cacache_loss.specs.{Chosen.{chosen}, Loss.{Lost, bytes_left, lead_folders, node_left, stays}, Losing.{loss_of, left_of, lost_of}, Reached.{is_among}, Running.{moment_of}};
+ghost use Rattle.cacache_core.specs.Paths.{home_of};
+ghost use Rattle.cacache_disk.specs.Tree.{is_folder, look, Names};
+ghost use Rattle.cacache_loss.specs.{Running.{chosen, loss_of, left_of, lost_of, moment_of}, Loss.{Lost, bytes_left, lead_folders, node_left, stays}, Reached.{is_among}};
 
 use crate::effect::fixing_at;
 use crate::fixing::Fixing;

@@ -12,6 +12,6 @@ mod running;
 mod syncs;
 
 pub use fixing::{Fixing, Place};
-pub use laws::{folder_laws, history_laws, loss_cases, loss_laws, tree_laws, value_laws};
+pub use laws::{folder_laws, loss_cases, loss_history_laws, loss_laws, tree_laws, value_laws};
 pub use loss::Loss;
 pub use running::Running;

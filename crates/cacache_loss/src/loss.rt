@@ -1,8 +1,8 @@
 //! What a loss of power takes.
 ghost use Rattle.std.specs.{Prelude.{◌≡◌, [], IfOk, unwrap_or}, BTreeMap.{get}, BTreeSet.{contains}, List.{list_any}};
-ghost use Rattle.cacache_core.specs.PathNames.{names_of};
+ghost use Rattle.cacache_core.specs.Paths.{names_of};
 ghost use Rattle.cacache_disk.specs.Tree.{Names, names_cmp};
-ghost use Rattle.cacache_loss.specs.{Fixing.{is_at}, Chosen.{tail_at, chosen}, Losing.{loss_of}};
+ghost use Rattle.cacache_loss.specs.{Fixing.{is_at}, Running.{tail_at, chosen, loss_of}};
 
 use crate::reached::named;
 use cacache_core::bytes::Bytes;

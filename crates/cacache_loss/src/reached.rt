@@ -1,6 +1,6 @@
 //! Where a step may change something.
 ghost use Rattle.std.specs.{Prelude.{◌≡◌, IfOk, []}, Result.{result_ok}};
-ghost use Rattle.cacache_core.specs.PathNames.{names_of};
+ghost use Rattle.cacache_core.specs.Paths.{names_of};
 ghost use Rattle.cacache_disk.specs.LedTo.{writable};
 ghost use Rattle.cacache_loss.specs.Reached.{listed, fronts, reached};
 

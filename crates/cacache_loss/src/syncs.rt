@@ -1,6 +1,6 @@
 //! What a sync fixes.
 ghost use Rattle.std.specs.{Prelude.{◌≡◌, OnOk, [], None, true, unwrap_or, if◌then◌else◌}, BTreeMap.{get}};
-ghost use Rattle.cacache_core.specs.PathNames.{names_of};
+ghost use Rattle.cacache_core.specs.Paths.{names_of};
 ghost use Rattle.cacache_disk.specs.{LedTo.{leads}, Tree.{Tree, Names, names_cmp, look, bytes_of}};
 ghost use Rattle.cacache_loss.specs.{Fixing.{is_at, is_child_of, is_sync, is_synced, synced, fixed_after}, Running.{FixesFiles, fixed_in}};
 

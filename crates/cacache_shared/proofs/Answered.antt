@@ -4,7 +4,7 @@ use Rattle.std.specs.Prelude.{filter_map, map}
 use Rattle.cacache_disk.specs.{declared.luck.Luck.{Luck}, Tree.{Tree}}
 use Rattle.cacache_calls.{specs.{declared.{command.Command.{Command}, reply.Reply.{Reply}}, Promises.{Answers}, Runs.{plain_reply}}, proofs.Promises.{calls_answer}}
 use Rattle.cacache_history.specs.{declared.record.Record.{Record, TheVariants.{Began, Moved, Stopped}}, Setup.{Setup, call_site}, History.{History, Call, Made, Now, IsLegal, Reaches, call_after, initial, new_call, now_after, now_at, moved_call, unless_over, set_call}, Turns.{made_in}}
-use Rattle.cacache_history.proofs.Histories.{Holding.{legal_after, replay_more}, Runs.{calls_are_runs}}
+use Rattle.cacache_history.proofs.Histories.{Holding.{legal_after, replay_more}, Places.{calls_are_runs}}
 use Rattle.cacache_threads.specs.Said.{said_command, said_reply}
 use Rattle.cacache_shared.specs.{Lines.{caller_of, commands_of, replies_of}, Answered.{own_reply, answered_in, IsGiven, AreAnswered, SeatsAreAnswered}}
 use Rattle.cacache_shared.proofs.SaidAnswers.{said_answers}

@@ -5,7 +5,7 @@ use Rattle.std.proofs.{Crossing.{crosses}, sync.ledger.{Book.TheSendSync.{the_se
 use Rattle.std.specs.declared.sync.ledger.Ledger.{Ghosts}
 use Rattle.std.specs.contracts.alloc.Global as Global
 use Rattle.cacache_world.specs.contracts.world.World as World
-use Rattle.cacache_threads.proofs.send.{Steps.{PlainFile-send, PlainTemp-send}, Commands.{Command-send, Reply-send}, Core.{crosses_core}, Disk.{Disk-send}, History.{Record-send}, Jobs.{Job-send}}
+use Rattle.cacache_threads.proofs.send.{Values.{PlainFile-send, PlainTemp-send, crosses_core, Disk-send}, Commands.{Command-send, Reply-send}, History.{Record-send}, Jobs.{Job-send}}
 use Rattle.cacache_shared.specs.contracts.inside.Inside as Inside
 use Rattle.cacache_shared.specs.contracts.seat.Seat as Seat
 use Rattle.cacache_shared.specs.contracts.shared.SharedWorld as SharedWorld

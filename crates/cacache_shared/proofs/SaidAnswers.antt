@@ -2,7 +2,7 @@
 use native.Mathlib.Omega.{arith}
 use Rattle.std.proofs.Common.{◌≡◌, List, Option, Result}
 use Rattle.cacache_core.specs.declared.errors.Error.{Error}
-use Rattle.cacache_entry.specs.Latest.{Found}
+use Rattle.cacache_entry.specs.Bucket.{Found}
 use Rattle.cacache_calls.specs.{declared.{command.{Command.{Command}, How.{How, TheVariants.{Copy, Reflink, HardLink}}}, reply.Reply.{Reply, TheVariants.{Stored, Read, LookedUp, Exists, Copied, Listed, Done, Refused}}}, State.{Site}, Promises.{Answers, Exports}, Runs.{plain_reply}}
 use Rattle.cacache_calls.specs.declared.command.Command.TheVariants as commands
 use Rattle.cacache_calls.specs.declared.command.Source.TheVariants as sources

@@ -28,7 +28,7 @@ impl<L: Ledger> Inside<L> {
     }
 
     /// The seat's caller begins a call, which the seat counts and notes.
-    #[tactic(auto, using(crate::proofs::Moves::one_more))]
+    #[tactic(auto, using(crate::proofs::Storms::one_more))]
     pub(crate) fn begin(&mut self, seat: &mut Seat<L>, command: Command) -> Result<(), WorldFault>
         ensures begins { OnOk result
             (SeatBegins command self.old.world self.new.world seat.old seat.new) }
@@ -58,7 +58,7 @@ impl<L: Ledger> Inside<L> {
     }
 
     /// The seat's caller makes one move, which the seat counts, with its reply if the call is over.
-    #[tactic(auto, using(crate::proofs::Moves::one_more, crate::proofs::Moves::moved_adds))]
+    #[tactic(auto, using(crate::proofs::Storms::one_more, crate::proofs::Storms::moved_adds))]
     pub(crate) fn go(&mut self, seat: &mut Seat<L>, luck: Luck) -> Result<Went, WorldFault>
         ensures moves { IfOk result (λ went.
             HoldsTurn luck went self.old.world self.new.world seat.old seat.new) }

@@ -94,7 +94,7 @@ impl<L: Ledger> SharedWorld<L> {
     ///
     /// The seat stays as it was, and so does the world: for `World::move_one`'s faults, and
     /// `OutOfMemory` if memory is refused.
-    #[tactic(auto, using(crate::proofs::Moves::turn_goes, crate::proofs::Moves::holds_turn))]
+    #[tactic(auto, using(crate::proofs::Storms::turn_goes, crate::proofs::Storms::holds_turn))]
     pub fn go<R: Wait>(&self, rt: &R, seat: &mut Seat<L>, luck: Luck) -> Result<Went, WorldFault>
         ensures turn { IfOk result (λ went. SeatTurns luck went seat.old seat.new) }
         ensures goes { IfOk result (λ went. SeatGoes went seat.old seat.new) }

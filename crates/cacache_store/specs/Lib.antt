@@ -1,5 +1,2 @@
-pub mod Given
-pub mod Handles
-pub mod Failures
+pub mod Outside
 pub mod Plain
-pub mod Fits

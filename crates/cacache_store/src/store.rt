@@ -1,6 +1,6 @@
 //! A store performs one step at a time and returns its answer.
 ghost use Rattle.std.specs.Prelude.{◌≡◌, List, Option};
-ghost use Rattle.cacache_store.specs.{declared.store.log.LogItem.{LogItem}, Plain.{plain_step, plain_answer}, Fits.{Fits, Logs}};
+ghost use Rattle.cacache_store.specs.{declared.store.log.LogItem.{LogItem}, Plain.{plain_step, plain_answer, Fits, Logs}};
 
 mod answer;
 mod failing;

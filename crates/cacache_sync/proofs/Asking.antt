@@ -3,9 +3,9 @@ use Rattle.std.proofs.Common.{◌≡◌, inl, inr, ℕ, Bool, List, [], ◌∷�
 use Rattle.cacache_core.specs.declared.{errors.Error.{Error}, integrity.digest.Hash.{Hash}}
 use Rattle.cacache_store.specs.declared.store.step.Step.TheVariants as steps
 use Rattle.cacache_store.specs.declared.store.answer.Answer.TheVariants as answers
-use Rattle.cacache_store.specs.{declared.store.log.LogItem.{LogItem}, Plain.{PlainAnswer}, Fits.{Fits, Logs}}
+use Rattle.cacache_store.specs.{declared.store.log.LogItem.{LogItem}, Plain.{PlainAnswer, Fits, Logs}}
 use Rattle.cacache_calls.specs.declared.command.Command.TheVariants as commands
-use Rattle.cacache_calls.specs.{declared.reply.Reply.{Reply, TheVariants.{Exists}}, Answers.{there_in}, StepPaths.{content_path}, Replies.{there_reply}, Runs.{Ran, reply_of}, State.{Site}, Table.{opening}}
+use Rattle.cacache_calls.specs.{declared.reply.Reply.{Reply, TheVariants.{Exists}}, Answers.{there_in}, Steps.{content_path}, Replies.{there_reply}, Runs.{Ran, reply_of}, State.{Site}, Table.{opening}}
 use Rattle.cacache_calls.proofs.Going.{no_gain}
 use Rattle.cacache_sync.specs.Reads.{AsksContent}
 

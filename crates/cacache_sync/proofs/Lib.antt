@@ -1,5 +1,4 @@
 pub mod Lookups
-pub mod Texts
 mod Asking
-mod ExportReplies
-mod ExportWays
+mod Exports
+mod Linkers

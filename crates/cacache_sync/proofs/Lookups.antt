@@ -1,16 +1,18 @@
--- What a run of a lookup shows: it read the bucket once, or memory was refused before.
-use Rattle.std.proofs.Common.{◌≡◌, ◌≢◌, ◌⊎◌, inl, inr, ℕ, List, [], Option, Result, Ok, Err, sym, ◌∙◌}
-use Rattle.cacache_core.specs.declared.errors.{Error.{Error, TheVariants.{IoError, OutOfMemory}}, Fault.{Fault}}
+-- What a run of a lookup shows, and where the text of an entry is in its line.
+use Rattle.std.proofs.{Common.{◌≡◌, ◌≢◌, ◌⊎◌, inl, inr, ℕ, List, [], Option, Result, Ok, Err, sym, ◌∙◌, ◌+◌, ◌*◌, ◌≤◌, ◌∷◌, ◌++◌, length, drop, subst, ap, arith, length-append}, Math.Seq.{drop-append-add}}
+use Rattle.cacache_core.specs.{declared.errors.{Error.{Error, TheVariants.{IoError, OutOfMemory}}, Fault.{Fault}}, Integrity.{sha256_hex}}
+use Rattle.cacache_store.specs.{declared.store.log.LogItem.{LogItem}, Plain.{PlainAnswer, Fits}}
+use Rattle.cacache_entry.specs.{declared.metadata.Metadata.{Metadata}, Entry.{Entry, text_of, line_of}}
+use Rattle.cacache_calls.specs.{declared.reply.Reply.TheVariants.{Refused}, Steps.{bucket_path}, Replies.{bucket_shown, entries_shown, find_reply, looked_up}, Runs.{Gains, Ran, reply_of, without_message}, State.{Site}, Table.{opening}}
+use Rattle.cacache_calls.proofs.{Going.{no_gain}, Replies.{find_run}}
+use Rattle.cacache_sync.specs.Lookups.{LooksUp, ReadsBucket}
+use Rattle.hex.{specs.Hex.{lower_digits}, proofs.HexLemmas.{length-encode_with}}
+use Rattle.sha2.{specs.Sha256.{sha256}, proofs.Facts256.{length-sha256}}
 use Rattle.cacache_core.specs.declared.errors.Fault.TheVariants as faults
 use Rattle.cacache_store.specs.declared.store.step.Step.TheVariants as steps
 use Rattle.cacache_store.specs.declared.store.answer.Answer.TheVariants as answers
-use Rattle.cacache_store.specs.{declared.store.log.LogItem.{LogItem}, Plain.{PlainAnswer}, Fits.{Fits}}
-use Rattle.cacache_entry.specs.declared.metadata.Metadata.{Metadata}
 use Rattle.cacache_calls.specs.declared.answers.Refusal.TheVariants as refusals
 use Rattle.cacache_calls.specs.declared.command.Command.TheVariants as commands
-use Rattle.cacache_calls.specs.{declared.reply.Reply.TheVariants.{Refused}, StepPaths.{bucket_path}, Replies.{bucket_shown, entries_shown, find_reply, looked_up}, Runs.{Gains, Ran, reply_of, without_message}, State.{Site}, Table.{opening}}
-use Rattle.cacache_calls.proofs.{Going.{no_gain}, Replies.{find_run}}
-use Rattle.cacache_sync.specs.Lookups.{LooksUp, ReadsBucket}
 
 lost_after : (cache key : List ℕ) (t : PlainAnswer) (e : Error) (old new : Option (List LogItem)) → ReadsBucket cache key old new t ⊎ (new ≡ old) → Refused (without_message e) ≡ Refused OutOfMemory → LooksUp cache key old new (Err e)
 lost_after cache key t OutOfMemory old new (inl reads) is = inr (t, reads)
@@ -57,3 +59,22 @@ looks_up site key result old new ran =
           unread site.cache key result old new (gained ∙ sym (no_gain old)) none.1
       | inr one ↦ told site.cache key one.0 result old new one.2 (rw one.1 at ran.2) one.3
     ]
+
+-- ---- where the text of an entry is in its line
+
+-- a digest has 64 digits
+length-sha256_hex : (bytes : List ℕ) → length (sha256_hex bytes) ≡ 64
+length-sha256_hex bytes = length-encode_with lower_digits (sha256 bytes) ∙ ap (λ n. 2 * n) (length-sha256 bytes)
+
+-- the text comes after LF, 64 digits and TAB
+pub text_in_line : (e : Entry) → drop 66 (line_of e) ≡ text_of e
+text_in_line e =
+    let digits = sha256_hex (text_of e) in
+    subst (λ n. drop (n + 1) (digits ++ 9 ∷ text_of e) ≡ text_of e) (length-sha256_hex (text_of e)) (drop-append-add digits (9 ∷ text_of e) 1)
+
+-- a line is at least that long
+pub line_reaches_text : (e : Entry) → 66 ≤ length (line_of e)
+line_reaches_text e =
+    let digits = length-sha256_hex (text_of e) in
+    let all = length-append (sha256_hex (text_of e)) (9 ∷ text_of e) in
+    omega (arith, digits, all)

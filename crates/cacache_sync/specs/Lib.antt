@@ -1,10 +1,6 @@
 pub mod Lookups
-pub mod Printing
 pub mod Reads
 pub mod Exports
-pub mod Ways
 pub mod Layers
-pub mod Damage
-pub mod GetOrPut
 pub mod content
 pub mod put

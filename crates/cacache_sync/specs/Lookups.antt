@@ -1,13 +1,13 @@
--- What a lookup answers by the one step that it makes, a read of the key's bucket; and tombstones.
-use Rattle.std.specs.Prelude.{◌≡◌, ◌≢◌, ◌⊎◌, ℕ, List, Option, None, Result, Ok, Err, option_map}
-use Rattle.cacache_core.specs.declared.errors.{Error.{Error, TheVariants.{IoError, OutOfMemory}}, Fault.TheVariants.{NotFound}}
+-- What a lookup answers by the one step that it makes, a read of the key's bucket; tombstones, and entries that were found.
+use Rattle.std.specs.Prelude.{◌≡◌, ◌≢◌, ◌⊎◌, ℕ, List, Option, None, Result, Ok, Err, option_map, Some}
+use Rattle.cacache_core.specs.{declared.errors.{Error.{Error, TheVariants.{IoError, OutOfMemory}}, Fault.TheVariants.{NotFound}}, Texts.{integrity_text}}
 use Rattle.cacache_store.specs.{declared.{env.Env.{Env}, store.log.LogItem.{LogItem}}, Plain.{PlainAnswer}}
+use Rattle.cacache_entry.specs.{declared.metadata.Metadata.{Metadata}, Bucket.{entries_of, Found, latest}, View.{found_view}, Entry.{Entry}}
+use Rattle.cacache_calls.specs.{declared.{command.Delete.{Delete}, reply.Reply.{Reply}}, Steps.{bucket_path}, SingleSteps.{Does}}
+use Rattle.cacache_jobs.specs.Environment.{RunsTimed}
 use Rattle.cacache_store.specs.declared.store.answer.Answer.TheVariants as answers
 use Rattle.cacache_store.specs.declared.store.step.Step.TheVariants as steps
-use Rattle.cacache_entry.specs.{declared.metadata.Metadata.{Metadata}, Bucket.{entries_of}, Latest.{Found, latest}, View.{found_view}}
 use Rattle.cacache_calls.specs.declared.command.Command.TheVariants as commands
-use Rattle.cacache_calls.specs.{declared.{command.Delete.{Delete}, reply.Reply.{Reply}}, StepPaths.{bucket_path}, SingleSteps.{Does}}
-use Rattle.cacache_jobs.specs.Environment.{RunsTimed}
 
 -- a tombstone of the key
 abbrev pub delete_of : List ℕ → ℕ → Delete
@@ -38,3 +38,16 @@ module _ (cache key : List ℕ) (old new : Option (List LogItem)) where
   LooksUp (Err (IoError fault message)) = ReadsBucket (answers.Failed fault) × (fault ≢ NotFound)
   LooksUp (Err OutOfMemory) = (new ≡ old) ⊎ ((answer : PlainAnswer) × ReadsBucket answer)
   LooksUp (Err e) = ⊥
+
+-- ---- entries that were found, as entries again
+
+-- an entry that was found, as its line says it
+abbrev pub printed_entry : Found → Entry
+printed_entry f = record {
+  key = f.key;
+  integrity = Some (integrity_text f.integrity);
+  time = f.time;
+  size = f.size;
+  metadata = f.metadata;
+  raw_metadata = f.raw_metadata;
+}

@@ -1,10 +1,10 @@
--- Which commands read bytes, and what a reading call answers.
+-- Which commands read bytes, what a reading call answers, and which errors say that bytes are damaged.
 use Rattle.std.specs.Prelude.{◌≡◌, ◌⊎◌, ℕ, Bool, true, false, List, Vec, Option, None, Some, Result, Ok, Err}
-use Rattle.cacache_core.specs.declared.{errors.{Error.{Error}, Fault.{Fault}}, integrity.digest.Hash.{Hash}}
-use Rattle.cacache_store.specs.declared.store.answer.Answer.TheVariants as answers
+use Rattle.cacache_core.specs.declared.{errors.{Error.{Error, TheVariants.{EntryNotFound, IoError, IntegrityError}}, Fault.{Fault, TheVariants.{NotFound}}, IntegrityFault.TheVariants.{Check}}, integrity.digest.Hash.{Hash}}
 use Rattle.cacache_store.specs.declared.store.log.LogItem.{LogItem}
+use Rattle.cacache_calls.specs.{declared.{command.Command.{Command}, reply.Reply.{Reply, TheVariants.{Read, Exists}}}, Steps.{content_path}, State.{Site}, Promises.{Answers, OnlyReads}, SingleSteps.{Does}}
+use Rattle.cacache_store.specs.declared.store.answer.Answer.TheVariants as answers
 use Rattle.cacache_store.specs.declared.store.step.Step.TheVariants as steps
-use Rattle.cacache_calls.specs.{declared.{command.Command.{Command}, reply.Reply.{Reply, TheVariants.{Read, Exists}}}, StepPaths.{content_path}, State.{Site}, Promises.{Answers, OnlyReads}, SingleSteps.{Does}}
 
 -- wherever the command is called, it answers bytes
 abbrev pub ReadsBytes : Command → Type 0
@@ -28,3 +28,18 @@ AsksContent cache i old new (Err e) = new ≡ old
 abbrev pub has : Option (List Hash) → Reply
 has None = Exists false
 has (Some i) = Exists true
+
+-- ---- which errors say that bytes are damaged, and which that a key's bytes can be had only from elsewhere
+
+-- whether the error says that bytes don't meet their integrity
+abbrev pub tells_damage : Error → Bool
+tells_damage (IntegrityError (Check wanted found)) = true
+tells_damage e = false
+
+-- A failed read of a key shows that the cache lacks its bytes: there is no entry, no content, or a damaged one.
+-- Any other error is handed on.
+abbrev pub lack_in : Error → Result (Unit {0}) Error
+lack_in (EntryNotFound cache key) = Ok tt
+lack_in (IoError NotFound message) = Ok tt
+lack_in (IntegrityError (Check wanted found)) = Ok tt
+lack_in e = Err e

@@ -1,5 +1,2 @@
 pub mod OpenReads
-pub mod Passed
 pub mod OpenWrites
-pub mod Filling
-pub mod Rests

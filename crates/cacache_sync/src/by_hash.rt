@@ -2,7 +2,7 @@
 ghost use Rattle.std.specs.Prelude.{◌≡◌, ◌≢◌, IfOk};
 ghost use Rattle.cacache_calls.specs.{declared.{command.{How.TheVariants.{Copy, Reflink, HardLink}, Source.TheVariants.{Hash}}, reply.Reply.TheVariants.{Copied, Done}}, Runs.{reply_of}, Replies.{done}};
 ghost use Rattle.cacache_core.specs.Integrity.{IsIntegrity};
-ghost use Rattle.cacache_sync.specs.{Exports.{checked_export, unchecked_export}, Ways.{ExportsTo}};
+ghost use Rattle.cacache_sync.specs.Exports.{checked_export, unchecked_export, ExportsTo};
 ghost use Rattle.cacache_jobs.specs.{ReadFirst.{Verified}, Environment.{Calls}};
 
 use crate::exporting::{Named, copy_content, link_content};
@@ -13,8 +13,8 @@ use cacache_core::integrity::Integrity;
 use cacache_store::env::{Clock, Env, Names};
 use cacache_store::store::Store;
 
-/// Copies the content of the integrity to this path, and answers how many bytes it has. A file there is overwritten.
-/// The content is read to its end first, and goes there only if it meets the integrity.
+/// Copies the content of the integrity to this path, and answers how many bytes it has. A file there is overwritten, as
+/// by `copy_sync`. The content is read to its end first, and goes there only if it meets the integrity.
 ///
 /// ```
 /// let sri = cacache::write_hash_sync(&mut env, "my-cache", b"my data")?;
@@ -41,8 +41,8 @@ pub fn copy_hash_sync<S: Store, C: Clock, N: Names>(
     copy_content(env, cache, Named::Hash(sri), true, to)
 }
 
-/// Copies the content of the integrity to this path, and answers how many bytes it has. A file there is overwritten.
-/// Whether it meets the integrity isn't asked.
+/// Copies the content of the integrity to this path, and answers how many bytes it has. A file there is overwritten, as
+/// by `copy_sync`. Whether it meets the integrity isn't asked.
 ///
 /// ```
 /// let sri = cacache::write_hash_sync(&mut env, "my-cache", b"my data")?;

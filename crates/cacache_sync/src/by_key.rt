@@ -1,7 +1,7 @@
 //! Exports of the content that a key names.
 ghost use Rattle.std.specs.Prelude.{◌≡◌, ◌≢◌, IfOk};
 ghost use Rattle.cacache_calls.specs.{declared.{command.{How.TheVariants.{Copy, Reflink, HardLink}, Source.TheVariants.{Key}}, reply.Reply.TheVariants.{Copied, Done}}, Runs.{reply_of}, Replies.{done}};
-ghost use Rattle.cacache_sync.specs.{Exports.{checked_export, unchecked_export}, Ways.{ExportsTo}};
+ghost use Rattle.cacache_sync.specs.Exports.{checked_export, unchecked_export, ExportsTo};
 ghost use Rattle.cacache_jobs.specs.{ReadFirst.{Verified}, Environment.{Calls}};
 
 use crate::exporting::{Named, copy_content, link_content};
@@ -12,8 +12,8 @@ use cacache_store::env::{Clock, Env, Names};
 use cacache_store::store::Store;
 
 /// Copies the content that a lookup of the key finds to this path, and answers how many bytes it has. A file there is
-/// overwritten. The content is read to its end first, and goes there only if it meets the integrity that the lookup
-/// gives. If the content is a link, its target's bytes are copied.
+/// overwritten, on real folders by a new one with this process's owner and the content's mode. The content is read to
+/// its end first, and goes there only if it meets the lookup's integrity. If it is a link, its target's bytes are copied.
 ///
 /// ```
 /// cacache::write_sync(&mut env, "my-cache", "key", b"my data")?;
@@ -40,7 +40,7 @@ pub fn copy_sync<S: Store, C: Clock, N: Names>(
 }
 
 /// Copies the content that a lookup of the key finds to this path, and answers how many bytes it has. A file there is
-/// overwritten. Whether it meets its integrity isn't asked.
+/// overwritten, as by `copy_sync`. Whether it meets its integrity isn't asked.
 ///
 /// ```
 /// cacache::write_sync(&mut env, "my-cache", "key", b"my data")?;

@@ -1,6 +1,6 @@
 //! Which errors say that a content is damaged.
 ghost use Rattle.std.specs.Prelude.{◌≡◌};
-ghost use Rattle.cacache_sync.specs.Damage.{lack_in, tells_damage};
+ghost use Rattle.cacache_sync.specs.Reads.{lack_in, tells_damage};
 
 use cacache_core::errors::{Error, Fault, IntegrityFault, Result};
 

@@ -1,7 +1,7 @@
 //! Entries that were found, as entries again and as texts.
 ghost use Rattle.std.specs.Prelude.{◌≡◌, IfErr, IfOk};
 ghost use Rattle.cacache_entry.specs.{Entry.{text_of}, View.{entry_view, found_view, IsRefusal}};
-ghost use Rattle.cacache_sync.specs.Printing.{printed_entry};
+ghost use Rattle.cacache_sync.specs.Lookups.{printed_entry};
 
 use cacache_core::errors::Result;
 use cacache_entry::{Metadata, SerializableMetadata, line};

@@ -1,5 +1,5 @@
 //! Bytes that are read from the cache, or fetched from elsewhere and stored in it.
-ghost use Rattle.cacache_sync.specs.GetOrPut.{GetsOrPuts, MayLack, PutsBytes};
+ghost use Rattle.cacache_sync.specs.Layers.{GetsOrPuts, MayLack, PutsBytes};
 
 use crate::damage::lack_of;
 use crate::put::bytes::write_sync;

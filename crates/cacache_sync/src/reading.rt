@@ -3,7 +3,7 @@ ghost use Rattle.std.specs.Prelude.{◌≡◌, IfOk, IfErr, IfSome};
 ghost use Rattle.cacache_core.specs.{declared.errors.Error.TheVariants.{OutOfMemory}, Integrity.{IsIntegrity, Meets}};
 ghost use Rattle.cacache_calls.specs.declared.command.Command.TheVariants as commands;
 ghost use Rattle.cacache_calls.specs.{declared.reply.Reply.TheVariants.{Read, Exists}, Promises.{Answers}, Runs.{reply_of}};
-ghost use Rattle.cacache_jobs.specs.{Environment.{Calls}, ReadFirst.{FindsBytes, ReadsFound}, Sites.{site_of}};
+ghost use Rattle.cacache_jobs.specs.{Environment.{Calls}, ReadFirst.{FindsBytes, ReadsFound}, JobStates.{site_of}};
 ghost use Rattle.cacache_sync.specs.Reads.{ReadsBytes, AsksContent, bytes_read, has};
 
 use cacache_calls::Command;

@@ -2,7 +2,7 @@
 ghost use Rattle.std.specs.Prelude.{◌≡◌, ◌≢◌, IfOk};
 ghost use Rattle.cacache_calls.specs.declared.command.How.TheVariants.{Copy, HardLink};
 ghost use Rattle.cacache_jobs.specs.Environment.{KeepsRest};
-ghost use Rattle.cacache_sync.specs.{Exports.{named_source, IsFormed}, Ways.{AsksFree, ExportsBy, ExportsTo, Tries, free_in, is_closed, ways}};
+ghost use Rattle.cacache_sync.specs.Exports.{named_source, IsFormed, AsksFree, ExportsBy, ExportsTo, Tries, free_in, is_closed, ways};
 
 use crate::exporting::{Named, copy_content, form_named, link_content};
 use cacache_calls::answers::done_of;

@@ -1,8 +1,4 @@
-pub mod Core
-pub mod Steps
-pub mod Disk
-pub mod Json
-pub mod Entry
+pub mod Values
 pub mod Commands
 pub mod Walks
 pub mod History

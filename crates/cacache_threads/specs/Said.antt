@@ -2,7 +2,7 @@
 use Rattle.std.specs.Prelude.{Result, Ok, Err, map, option_map, if◌then◌else◌}
 use Rattle.serde_json.specs.{Data.{Data, null, string}, Written.{has_float, compact_text}}
 use Rattle.cacache_core.specs.declared.errors.Error.{Error}
-use Rattle.cacache_entry.specs.Latest.{Found}
+use Rattle.cacache_entry.specs.Bucket.{Found}
 use Rattle.cacache_calls.specs.declared.{command.{Options.{Options}, Put.{Put}, Link.{Link}, Insert.{Insert}, Command.{Command}}, reply.Reply.{Reply}}
 use Rattle.cacache_calls.specs.declared.command.Command.TheVariants as commands
 use Rattle.cacache_calls.specs.declared.reply.Reply.TheVariants as replies

@@ -1,8 +1,5 @@
-pub mod KindsApart
 pub mod PutValues
-pub mod FoundPaths
 pub mod MadeFolders
-pub mod AppendedLines
 pub mod Applying
 pub mod Steps
 pub mod Temps

@@ -1,11 +1,10 @@
 -- Outside files hold nothing of the cache.
-use Rattle.std.proofs.{Common.{arith, rules, ◌≡◌, ◌==◌, ◌-◌, ◌+◌, ℕ, Bool, true, false, cond, List, [], ◌∷◌, ◌++◌, Option, None, Some, Ok, length, refl, sym, ap, ap₂, subst, ◌∙◌, append_assoc, append-nil, bytes_eq}, lemmas.{Grind.{common_steps}, Bool.{false_from_ne_true}}}
-use Rattle.std.specs.FinMap as map
-use Rattle.cacache_core.specs.{Paths.{content_names, bucket_names_of}, PathNames.{names_of}}
-use Rattle.cacache_disk.specs.{declared.node.Node.{Node, TheVariants.{Folder, File}}, Tree.{Tree, Names, look, put, same_path, bare}, LedTo.{or_fault, dirs_fault, where_no_folder}, Apply.{planted, above_last, make_some, if_missing}, Rooted.{is_folder, Rooted}}
+use Rattle.std.proofs.{Common.{arith, rules, ◌≡◌, ◌==◌, ◌-◌, ◌+◌, ℕ, Bool, true, false, cond, List, [], ◌∷◌, ◌++◌, Option, None, Some, Ok, length, refl, sym, ap, subst, ◌∙◌, append_assoc, append-nil, bytes_eq}, lemmas.{Grind.{common_steps}, Bool.{false_from_ne_true}}}
+use Rattle.cacache_core.specs.Paths.{content_names, bucket_names_of, names_of}
+use Rattle.cacache_disk.specs.{declared.node.Node.{Node, TheVariants.{Folder, File}}, Tree.{Tree, Names, look, put, same_path, bare, is_folder, Rooted}, LedTo.{or_fault, dirs_fault, where_no_folder}, Apply.{planted, above_last, make_some, if_missing}}
 use Rattle.cacache_disk.proofs.{Maps.{same_path-true}, PutNodes.{look-put}, FoundNodes.{no_folder_at, and_then_ok, or_fault_none}, Roots.{look-bare, bare_below, bare_rooted}, PlantedNodes.{Ends, empty, last, ends, above_last-snoc, planted_rooted}}
-use Rattle.cacache_value.specs.{Kinds.{PathKind, Elsewhere, path_kind, kind_beside, node_below, is_path_of, IsFor}, Value.{blob_in, bucket_in, folders_below, value_of_tree}, Placed.{MayStand, Placed}, OpeningTrees.{with_files, LieApart, IsOpening}, ValueLaws.{FilesOpen}}
-use Rattle.cacache_value.proofs.{KindsApart.{kind-below, further, inner_used}, PutValues.{node_below-put, same_value, placed_put}, FoundPaths.{of_names}}
+use Rattle.cacache_value.specs.{Kinds.{PathKind, Elsewhere, path_kind, kind_beside, node_below, is_path_of, IsFor}, Value.{blob_in, bucket_in, folders_below, value_of_tree}, Placed.{MayStand, Placed, with_files, LieApart, IsOpening}, ValueLaws.{FilesOpen}}
+use Rattle.cacache_value.proofs.{PathKinds.{kind-below, further, inner_used}, PutValues.{node_below-put, same_value, placed_put}, Applying.{of_names}}
 
 -- ---- paths that aren't below the cache's folder
 

@@ -1,12 +1,11 @@
 -- The value of a tree after a node is put or cut.
-use Rattle.std.proofs.{Common.{arith, rules, ◌≡◌, ℕ, Bool, true, false, cond, List, ◌++◌, Option, None, Some, refl, sym, ap, subst, ◌∙◌}, lemmas.Grind.{common_steps}}
-use Rattle.std.specs.FinMap as map
+use Rattle.std.proofs.{Common.{arith, rules, ◌≡◌, ℕ, Bool, true, false, cond, List, ◌++◌, Option, None, Some, refl, ap, ◌∙◌}, lemmas.Grind.{common_steps}}
 use Rattle.cacache_core.specs.{declared.integrity.digest.Hash.{Hash}, Paths.{content_names, bucket_names_of}}
-use Rattle.cacache_disk.specs.{declared.node.Node.{Node, TheVariants.{Folder, File}}, Tree.{Tree, Names, look, put, cut, same_path}, Rooted.{is_folder}}
+use Rattle.cacache_disk.specs.{declared.node.Node.{Node, TheVariants.{Folder, File}}, Tree.{Tree, Names, look, put, cut, same_path, is_folder}}
 use Rattle.cacache_disk.proofs.{Maps.{same_path-true}, PutNodes.{look-put, look-cut, folders-put, folders-cut}}
 use Rattle.cacache_entry.specs.{Entry.{Entry}, Bucket.{entries_of}}
-use Rattle.cacache_value.specs.{Kinds.{PathKind, Content, Bucket, Way, kind_below, path_kind, node_below, is_path_of}, Value.{Value, blob_in, bucket_in, wide_value}, Acts.{put_blob, list_of, add_entries, drop_file, set_folder, with_folders}, Placed.{MayStand, Placed}}
-use Rattle.cacache_value.proofs.KindsApart.{unseen}
+use Rattle.cacache_value.specs.{Kinds.{Content, Bucket, Way, kind_below, path_kind, node_below, is_path_of}, Value.{Value, blob_in, bucket_in, wide_value}, Acts.{put_blob, list_of, add_entries, drop_file, set_folder, with_folders}, Placed.{MayStand, Placed}}
+use Rattle.cacache_value.proofs.PathKinds.{unseen}
 
 -- values that answer alike are the same
 pub same_value : (v w : Value) → ((a : Hash) → v.contents a ≡ w.contents a) → ((h : List ℕ) → v.buckets h ≡ w.buckets h)
@@ -38,9 +37,6 @@ pub cut_unseen : (home : Option Names) (t : Tree) (p names : Names) → (kind_be
 cut_unseen home t p names apart = node_below-cut home t p names ∙ ap (λ b. cond b None (node_below home t names)) (unseen home names p apart)
 
 -- ---- what may be at each path
-
-suits_none : (home : Option Names) (k : PathKind) → MayStand home None k
-suits_none home k = tt
 
 placed_at : (home : Option Names) (p q : Names) (new old : Option Node) (b : Bool) → same_path q p ≡ b → MayStand home new (path_kind home p)
     → MayStand home old (path_kind home q) → MayStand home (cond b new old) (path_kind home q)

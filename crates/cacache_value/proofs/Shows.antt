@@ -1,13 +1,13 @@
 -- Reading steps show what the value holds.
-use Rattle.std.proofs.{Common.{arith, ◌≡◌, ℕ, true, false, cond, List, [], ◌++◌, Option, None, Some, Ok, Err, refl, sym, ap, subst, ◌∙◌, length}, lemmas.Grind.{common_steps}}
+use Rattle.std.proofs.{Common.{arith, ◌≡◌, ℕ, true, false, List, [], ◌++◌, Option, None, Some, Ok, Err, refl, ap, subst, length}, lemmas.Grind.{common_steps}}
 use Rattle.std.specs.Prelude.{Result}
-use Rattle.cacache_core.specs.{declared.{errors.Fault.{Fault, TheVariants.{NotFound, IsADirectory, InvalidInput}}, integrity.digest.Hash.{Hash}}, Paths.{content_names, bucket_names_of}, PathNames.{names_of, names_below}}
+use Rattle.cacache_core.specs.{declared.{errors.Fault.{Fault, TheVariants.{NotFound, IsADirectory, InvalidInput}}, integrity.digest.Hash.{Hash}}, Paths.{content_names, bucket_names_of, names_of, names_below}}
 use Rattle.cacache_store.specs.{declared.store.{step.Step.TheVariants.{ReadAll, Open, Size, Exists}, answer.Answer.TheVariants.{Bytes, File as Opened, There, Length, Failed}}, Plain.{PlainStep, PlainAnswer}}
-use Rattle.cacache_disk.specs.{declared.{luck.Luck.{Luck, TheVariants.{Plain, Fail, Take}}, node.Node.{Node, TheVariants.{Folder, File, Link}}}, Tree.{Tree, Names, look}, LedTo.{way_fault, place, followed, leads, found, file_at, bytes_there}, Apply.{apply, plain, unless, is_there, is_taking, fails, fault_told, left_by, made_up}, Rooted.{Rooted}}
+use Rattle.cacache_disk.specs.{declared.{luck.Luck.{Luck}, node.Node.{Node}}, Tree.{Tree, Names, look, Rooted}, LedTo.{way_fault, place, followed, leads, found, file_at, bytes_there}, Apply.{apply, plain, unless, is_there, fails, fault_told, made_up}}
 use Rattle.cacache_disk.proofs.Standing.{way_clear}
 use Rattle.cacache_entry.specs.Entry.{Entry}
 use Rattle.cacache_value.specs.{Kinds.{Content, Bucket, path_kind, is_used}, Value.{blob_in, bucket_in, wide_value}, Placed.{MayStand, Placed}, Shows.{link_end, blob_bytes, blob_there, ShowsBucket, ShowsContent, ShowsThere}, ValueLaws.{TreesShow}}
-use Rattle.cacache_value.proofs.{KindsApart.{kind-below}, FoundPaths.{OnlyMissing, way_missing, suits}}
+use Rattle.cacache_value.proofs.{PathKinds.{kind-below}, Applying.{OnlyMissing, way_missing, suits}}
 
 -- ---- an answer under any luck
 

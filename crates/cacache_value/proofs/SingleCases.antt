@@ -1,12 +1,12 @@
 -- The single cases.
 use Rattle.std.proofs.{lemmas.{Grind.{common_steps}, List.{append_cancel_left}, Bool.{false_from_ne_true}}, Common.{rules, ◌≡◌, ◌≢◌, ◌≤◌, ◌<◌, ℕ, false, cond, List, [], ◌∷◌, ◌++◌, Option, None, Some, Ok, length, take, refl, ap, ◌∙◌, arith, append-nil}}
-use Rattle.cacache_core.specs.{declared.{integrity.digest.Hash.{Hash}, errors.Fault.TheVariants.{NotFound, IsADirectory, Device}}, Integrity.{IsHash}, Paths.{joined, content_names, bucket_names_of}, PathLaws.{IsKeyDigest}, PathNames.{Names, names_of}}
+use Rattle.cacache_core.specs.{declared.{integrity.digest.Hash.{Hash}, errors.Fault.TheVariants.{NotFound, Device}}, Integrity.{IsHash}, Paths.{joined, content_names, bucket_names_of, Names, names_of}, Laws.{IsKeyDigest}}
 use Rattle.cacache_core.proofs.PathTexts.{paths_differ}
-use Rattle.cacache_entry.{proofs.Lines.{empty_holds_nothing}, specs.{Entry.{Entry, line_of}, FittingEntries.{IsEntry, IsWritable}, Bucket.{entries_of}}}
-use Rattle.cacache_disk.{specs.{Tree.{Tree, same_path}, LedTo.{bytes_there}, declared.luck.Luck.{Luck, TheVariants.{Fail}}}, proofs.{Maps.{same_path-true}, Roots.{same_self}}}
-use Rattle.cacache_store.specs.{declared.store.answer.Answer.TheVariants.{Done, Took, Failed}, Plain.{PlainAnswer}}
-use Rattle.cacache_value.specs.{Value.{Value, blob_in, bucket_in, empty_value}, Acts.{list_of, amount_left, folders_left, make_folders, PutBytes, AddEntries, MakeFolders, act_at, act_with, change}, SingleCases.{bucket_after, AppendCases, ContentCases, RemovedBucketsGo, OtherBucketsKeep, FolderCases, KindCases, TreeCases, LinkCases, row_home, row_folder, folders_after}}
-use Rattle.cacache_value.proofs.AppendedLines.{whole_line, torn_line, append_act, nothing_left_is_nothing}
+use Rattle.cacache_entry.{proofs.Lookups.{empty_holds_nothing}, specs.{Entry.{Entry, line_of}, FittingEntries.{IsEntry, IsWritable}, Bucket.{entries_of}}}
+use Rattle.cacache_disk.{specs.{Tree.{Tree, same_path}, declared.luck.Luck.{Luck, TheVariants.{Fail}}}, proofs.{Maps.{same_path-true}, Roots.{same_self}}}
+use Rattle.cacache_store.specs.{declared.store.answer.Answer.TheVariants.{Took, Failed}, Plain.{PlainAnswer}}
+use Rattle.cacache_value.specs.{Value.{Value}, Acts.{list_of, amount_left, folders_left, make_folders, PutBytes, AddEntries, act_with, change}, SingleCases.{bucket_after, AppendCases, ContentCases, RemovedBucketsGo, OtherBucketsKeep, FolderCases, KindCases, TreeCases, LinkCases, row_folder, folders_after}}
+use Rattle.cacache_value.proofs.MadeFolders.{whole_line, torn_line, append_act, nothing_left_is_nothing}
 
 here : {A : Type 0} (p : Names) (x y : A) → cond (same_path p p) x y ≡ x
 here p x y = ap (λ b. cond b x y) (same_self p)

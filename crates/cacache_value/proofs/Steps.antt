@@ -1,13 +1,13 @@
 -- The step theorem, one kind of step after another.
-use Rattle.std.proofs.{Common.{arith, rules, ◌≡◌, ℕ, false, List, [], ◌∷◌, ◌++◌, Option, None, Some, Ok, Err, length, take, refl, sym, ap, subst, ◌∙◌}, lemmas.{Grind.{common_steps}, List.{take_min}}}
+use Rattle.std.proofs.{Common.{arith, rules, ◌≡◌, ℕ, false, List, [], ◌∷◌, ◌++◌, Option, None, Some, Ok, Err, take, refl, sym, ap, subst, ◌∙◌}, lemmas.{Grind.{common_steps}, List.{take_min}}}
 use Rattle.std.specs.Prelude.{Result, IfOk}
-use Rattle.cacache_core.specs.{declared.errors.Fault.{Fault, TheVariants.{NotFound, IsADirectory, InvalidInput}}, PathNames.{names_of}}
-use Rattle.cacache_store.specs.{declared.store.{plain.PlainTemp.{PlainTemp}, step.Step.TheVariants.{MakeDirs, CreateTemp, Write, Persist, Append, ReadAll, Open, Read, Size, Exists, Symlink, Copy, Reflink, HardLink, ReadDir, RemoveFile, RemoveDir, SyncTemp, SyncFile, SyncDir}, answer.Answer.TheVariants.{Done, Took, Failed}}, Plain.{PlainStep, PlainAnswer}}
-use Rattle.cacache_disk.specs.{declared.{luck.Luck.{Luck, TheVariants.{Plain, Fail, Take}}, node.Node.{Node, TheVariants.{Folder, File, Link}}}, Tree.{Tree, Names, look, put, cut, bytes_of}, Rooted.{is_folder}, LedTo.{dirs, free, known, kept, replaceable, writable, file_at, linked, removable, emptied, folder}, Apply.{apply, plain, unless, taken, made_up, making, make_some}}
+use Rattle.cacache_core.specs.{declared.errors.Fault.{Fault, TheVariants.{NotFound, IsADirectory, InvalidInput}}, Paths.{names_of}}
+use Rattle.cacache_store.specs.{declared.store.{plain.PlainTemp.{PlainTemp}, step.Step.TheVariants.{MakeDirs, CreateTemp, Write, Persist, Append, ReadAll, Open, Read, Size, Exists, Symlink, Copy, Reflink, HardLink, ReadDir, RemoveFile, RemoveDir, SyncTemp, SyncFile, SyncDir}, answer.Answer.TheVariants.{Took, Failed}}, Plain.{PlainStep, PlainAnswer}}
+use Rattle.cacache_disk.specs.{declared.{luck.Luck.{Luck, TheVariants.{Plain, Fail, Take}}, node.Node.{Node, TheVariants.{File, Link}}}, Tree.{Tree, Names, look, put, cut, bytes_of, is_folder}, LedTo.{dirs, free, known, kept, replaceable, writable, file_at, linked, removable, emptied, folder}, Apply.{apply, plain, unless, taken, made_up, making, make_some}}
 use Rattle.cacache_disk.proofs.{PutNodes.{folders-cut}, FoundNodes.{free_ok, kept_ok, replaceable_ok, removable_ok, emptied_ok}, Changes.{apply_tree, unless_tree}}
 use Rattle.cacache_entry.specs.{Entry.{piece_of, closing}, Bucket.{entries_of}}
 use Rattle.cacache_value.specs.{Kinds.{PathKind, Content, Bucket, Temporary, Way, Elsewhere, path_kind, IsFor}, Value.{InFile, wide_value}, Acts.{Act, Nothing, PutBytes, PutLink, AddEntries, Drop, MakeFolders, DropFolder, put_blob, act_at, act_with, amount_left, folders_left, act_of, change}, Placed.{MayStand, Placed, Proper}}
-use Rattle.cacache_value.proofs.{PutValues.{placed_put, placed_cut, put_hidden, cut_hidden, put_content, put_bucket, cut_file, cut_folder}, FoundPaths.{suits, Reaches, found, missing, bucket_reached, unreachable, unmakeable, of_names, linked_ok, writable_out}, Applying.{Acted, unless_acted, apply_acted, apply_refused, refused, amount_left-made_up}, MadeFolders.{made, no_dirs_fault}, AppendedLines.{bucket_left}}
+use Rattle.cacache_value.proofs.{PutValues.{placed_put, placed_cut, put_hidden, cut_hidden, put_content, put_bucket, cut_file, cut_folder}, Applying.{suits, Reaches, found, missing, bucket_reached, unreachable, unmakeable, of_names, linked_ok, writable_out, Acted, unless_acted, apply_acted, apply_refused, refused, amount_left-made_up}, MadeFolders.{made, no_dirs_fault, bucket_left}}
 
 pub known_ok : (o : Option (List ℕ)) (bytes : List ℕ) → known o ≡ Ok bytes → o ≡ Some bytes
 known_ok o bytes e = grind (arith, common_steps)

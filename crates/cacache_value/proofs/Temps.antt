@@ -1,12 +1,12 @@
 -- What a proper step does at a path of a kind.
-use Rattle.std.proofs.{Common.{arith, ◌≡◌, ℕ, Bool, true, false, List, [], ◌∷◌, ◌++◌, Option, None, Some, Result, Ok, Err, refl, sym, ap, ◌∙◌}, lemmas.Grind.{common_steps}}
+use Rattle.std.proofs.{Common.{arith, ◌≡◌, ℕ, Bool, true, List, [], ◌∷◌, ◌++◌, Option, None, Some, Result, Ok, refl, sym, ap, ◌∙◌}, lemmas.Grind.{common_steps}}
 use Rattle.std.specs.Prelude.{IfOk, ◌||◌}
-use Rattle.cacache_core.specs.{declared.errors.Fault.{Fault, TheVariants.{NotFound}}, PathNames.{names_of}}
+use Rattle.cacache_core.specs.{declared.errors.Fault.{Fault}, Paths.{names_of}}
 use Rattle.cacache_store.specs.{declared.store.step.Step.TheVariants.{MakeDirs, CreateTemp, Persist, Append, Symlink, Copy, Reflink, HardLink, RemoveFile, RemoveDir}, Plain.{PlainStep}}
 use Rattle.cacache_disk.specs.{declared.{luck.Luck.{Luck}, node.Node.{Node, TheVariants.{File}}}, Apply.{apply}, LedTo.{writable}, Tree.{Names, Tree, fronts, is_among, look, same_path}}
 use Rattle.cacache_disk.proofs.{Changes.{Cuts, CutNode, MakeFolders, Makes, MoveFile, NoChange, PutNode, Puts, StepAt, TreeChange, at_cut, at_put, at_rest, step_at}, FoundNodes.{dirs_ok, emptied_ok, free_none, free_ok, kept_ok, removable_ok, replaceable_ok}, Maps.{same_path-true}}
 use Rattle.cacache_value.specs.{Kinds.{Bucket, Content, Elsewhere, IsFor, PathKind, Temporary, Way, path_kind}, Placed.{Placed, Proper}}
-use Rattle.cacache_value.proofs.{FoundPaths.{Reaches, bucket_reached, found, missing, of_names, unreachable, writable_out}, KindsApart.{further, way_here}}
+use Rattle.cacache_value.proofs.{Applying.{Reaches, bucket_reached, found, missing, of_names, unreachable, writable_out}, PathKinds.{further, way_here}}
 
 -- such a step makes a temporary file there
 abbrev pub Creates : Names → PlainStep → Type 0

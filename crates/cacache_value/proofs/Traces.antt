@@ -2,9 +2,9 @@
 use Rattle.std.proofs.Common.{rules, ◌≡◌, ℕ, Bool, true, false, cond, List, [], ◌∷◌, ◌++◌, Option, Some, refl, sym, ap, ◌∙◌, append-nil, append_assoc}
 use Rattle.cacache_entry.specs.Entry.{Entry}
 use Rattle.cacache_core.specs.Paths.{bucket_names_of}
-use Rattle.cacache_value.specs.{Kinds.{is_path_of}, Value.{Value, wide_value, cache_part}, Acts.{Act, AddEntries, Drop, act_of, change, list_of}, Placed.{Placed}, Traces.{Move, IsTrace, tree_after, acts}, ValueLaws.{StepsKeepPlaced, StepsAct, TracesAct, TracesShow, KeepsBucket, IsLonger, BucketsGrow}}
+use Rattle.cacache_value.specs.{Kinds.{is_path_of}, Value.{Value, wide_value, cache_part}, Acts.{Act, AddEntries, Drop, act_of, change, list_of, Move, IsTrace, tree_after, acts}, Placed.{Placed}, ValueLaws.{StepsKeepPlaced, StepsAct, TracesAct, TracesShow, KeepsBucket, IsLonger, BucketsGrow}}
 use Rattle.cacache_value.proofs.{Shows.{trees_show}, Steps.{step_kept}}
-use Rattle.cacache_disk.{specs.{Rooted.{Rooted}, Tree.{Tree, Names}, Apply.{apply}}, proofs.KeptFolders.{steps_keep_rooted}}
+use Rattle.cacache_disk.{specs.{Tree.{Rooted, Tree, Names}, Apply.{apply}}, proofs.KeptFolders.{steps_keep_rooted}}
 
 pub steps_keep_placed : StepsKeepPlaced
 steps_keep_placed home t step luck placed proper = (step_kept home t placed step luck proper).0
@@ -23,7 +23,7 @@ whole_after home t (m ∷ moves) placed made =
 pub traces_act : TracesAct
 traces_act home t moves placed made = ap (cache_part home) (whole_after home t moves placed made)
 
-whole_rooted : (t : Tree) (moves : List Move) → Rooted t → Rooted (tree_after t moves)
+pub whole_rooted : (t : Tree) (moves : List Move) → Rooted t → Rooted (tree_after t moves)
 whole_rooted t [] rooted = rooted
 whole_rooted t (m ∷ moves) rooted = whole_rooted (apply t m.step m.luck).1 moves (steps_keep_rooted t m.step m.luck rooted)
 

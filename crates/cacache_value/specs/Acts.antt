@@ -1,10 +1,10 @@
--- What one step does to a cache's value.
-use Rattle.std.specs.Prelude.{ℕ, ◌-◌, ◌==◌, Bool, true, false, List, [], ◌∷◌, ◌++◌, Option, None, Some, Result, Ok, Err, length, take, unwrap_or, if◌then◌else◌}
-use Rattle.cacache_core.specs.{declared.errors.Fault.{Fault, TheVariants.{NotFound}}, PathNames.{Names, names_of}, Paths.{content_names, bucket_names_of}}
+-- What one step does to a cache's value, and steps made one after another.
+use Rattle.std.specs.Prelude.{ℕ, ◌-◌, ◌==◌, Bool, true, false, List, [], ◌∷◌, ◌++◌, Option, None, Some, Result, Ok, Err, length, take, unwrap_or, if◌then◌else◌, ◌≡◌}
+use Rattle.cacache_core.specs.{declared.errors.Fault.{Fault, TheVariants.{NotFound}}, Paths.{Names, names_of, content_names, bucket_names_of}}
 use Rattle.cacache_store.specs.{declared.store.{step.Step.TheVariants.{MakeDirs, Persist, Append, Symlink, RemoveFile, RemoveDir}, answer.Answer.TheVariants.{Done, Took, Failed}}, Plain.{PlainStep, PlainAnswer}}
-use Rattle.cacache_disk.specs.{declared.luck.Luck.{Luck, TheVariants.{Plain, Fail, Take}}, Tree.{same_path}}
+use Rattle.cacache_disk.specs.{declared.luck.Luck.{Luck, TheVariants.{Plain, Fail, Take}}, Tree.{same_path, Tree}, Apply.{apply}}
 use Rattle.cacache_entry.specs.{Entry.{Entry}, Bucket.{entries_of}}
-use Rattle.cacache_value.specs.{Kinds.{is_path_of}, Value.{Value, Blob, InFile, AtLink}}
+use Rattle.cacache_value.specs.{Kinds.{is_path_of}, Value.{Value, Blob, InFile, AtLink}, Placed.{Proper}}
 
 -- what a step does, at the names of a path
 pub data Act : Type 0 where
@@ -133,3 +133,28 @@ change home (AddEntries path new) v = add_entries home path new v
 change home (Drop path) v = drop_file home path v
 change home (MakeFolders path count) v = with_folders (make_folders v.folders [] path count) v
 change home (DropFolder path) v = with_folders (set_folder false path v.folders) v
+
+-- ---- steps made one after another
+
+-- a step that was made, with its luck and its answer
+pub record Move : Type 0 where
+  pub step : PlainStep
+  pub luck : Luck
+  pub answer : PlainAnswer
+
+-- each is a proper step, answered as the disk answers at its place
+abbrev pub IsTrace : Option Names → Tree → List Move → Type 0
+IsTrace home t [] = Unit {0}
+IsTrace home t (m ∷ moves) =
+    Proper home m.step × (m.answer ≡ (apply t m.step m.luck).0)
+    × IsTrace home (apply t m.step m.luck).1 moves
+
+-- the tree after these moves
+abbrev pub tree_after : Tree → List Move → Tree
+tree_after t [] = t
+tree_after t (m ∷ moves) = tree_after (apply t m.step m.luck).1 moves
+
+-- the value after the acts of these moves
+abbrev pub acts : Option Names → Value → List Move → Value
+acts home v [] = v
+acts home v (m ∷ moves) = acts home (change home (act_of m.step m.luck m.answer) v) moves

@@ -1,6 +1,6 @@
--- What each path of a tree is for, as a cache sees it.
+-- What each path of a tree is for, as a cache sees it, and the paths of contents, buckets and temporary files.
 use Rattle.std.specs.Prelude.{◌≡◌, ℕ, zero, suc, Bool, true, false, List, [], ◌∷◌, ◌++◌, Option, None, Some, IfOk, bytes_eq, if◌then◌else◌}
-use Rattle.cacache_core.specs.{Paths.{content_area, index_area, temp_area}, PathNames.{Names, names_of, names_below}}
+use Rattle.cacache_core.specs.{Paths.{content_area, index_area, temp_area, Names, names_of, names_below, home_of, joined, content_names, bucket_names_of, temp_names, folder_names}, declared.integrity.digest.Hash.{Hash}, Integrity.{IsHash}, Laws.{IsKeyDigest}}
 use Rattle.cacache_disk.specs.{Tree.{Tree, look, same_path}, declared.node.Node.{Node}}
 
 -- ---- below the cache's folder
@@ -73,3 +73,21 @@ is_used used = true
 -- a path's text is for this; one that names nothing is for anything, since each step on it fails
 abbrev pub IsFor : Option Names → PathKind → List ℕ → Type 0
 IsFor home k path = IfOk (names_of path) (λ names. path_kind home names ≡ k)
+
+-- ---- what the paths of contents, buckets and temporary files are for
+
+-- the text of names below a cache's folder is for this
+abbrev pub IsTextFor : List ℕ → PathKind → Names → Type 0
+IsTextFor cache k names = IsFor (home_of cache) k (joined cache names)
+
+-- so are the texts of contents, buckets and temporary files
+pub record PathsAreFor (cache : List ℕ) : Type 0 where
+  pub content : (h : Hash) → IsHash h → IsTextFor cache Content (content_names h)
+  pub bucket : (d : List ℕ) → IsKeyDigest d → IsTextFor cache Bucket (bucket_names_of d)
+  pub temporary : (n : ℕ) → IsTextFor cache Temporary (temp_names n)
+
+-- and the folder of each is on the way there
+pub record FoldersAreWays (cache : List ℕ) : Type 0 where
+  pub content : (h : Hash) → IsHash h → IsTextFor cache Way (folder_names (content_names h))
+  pub bucket : (d : List ℕ) → IsKeyDigest d → IsTextFor cache Way (folder_names (bucket_names_of d))
+  pub temporary : (n : ℕ) → IsTextFor cache Way (folder_names (temp_names n))

@@ -2,9 +2,6 @@ pub mod Kinds
 pub mod Value
 pub mod Acts
 pub mod Placed
-pub mod Traces
 pub mod Shows
-pub mod OpeningTrees
-pub mod PathKinds
 pub mod ValueLaws
 pub mod SingleCases

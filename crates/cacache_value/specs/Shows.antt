@@ -1,6 +1,6 @@
 -- What a reading step shows of a cache's value.
 use Rattle.std.specs.Prelude.{◌≡◌, ℕ, true, false, List, Option, None, Some, Result, Ok, Err, length}
-use Rattle.cacache_core.specs.{declared.{errors.Fault.{Fault, TheVariants.{NotFound, IsADirectory}}, integrity.digest.Hash.{Hash}}, PathNames.{Names}, Paths.{content_names, bucket_names_of}}
+use Rattle.cacache_core.specs.{declared.{errors.Fault.{Fault, TheVariants.{NotFound, IsADirectory}}, integrity.digest.Hash.{Hash}}, Paths.{Names, content_names, bucket_names_of}}
 use Rattle.cacache_store.specs.{declared.store.{step.Step.TheVariants.{ReadAll, Open, Size, Exists}, answer.Answer.TheVariants.{Bytes, File, There, Length, Failed}}, Plain.{PlainStep, PlainAnswer}}
 use Rattle.cacache_disk.specs.{declared.luck.Luck.{Luck}, Tree.{Tree, look}, LedTo.{and_then, standing, followed, bytes_there, where_there}, Apply.{apply, is_there}}
 use Rattle.cacache_entry.specs.{Entry.{Entry}, Bucket.{entries_of}}

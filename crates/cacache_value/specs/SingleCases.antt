@@ -1,6 +1,6 @@
 -- Single cases, which show that the definitions say what they should.
 use Rattle.std.specs.Prelude.{◌≡◌, ◌≢◌, ◌≤◌, ◌<◌, ℕ, List, [], ◌∷◌, ◌++◌, Option, Some, None, Ok, Err, Bool, true, false, codes, length}
-use Rattle.cacache_core.specs.{declared.{errors.Fault.TheVariants.{Device, NotFound, IsADirectory}, integrity.digest.Hash.{Hash}}, Integrity.{IsHash}, PathLaws.{IsKeyDigest}, PathNames.{Names, names_of}, Paths.{content_names, bucket_names_of}}
+use Rattle.cacache_core.specs.{declared.{errors.Fault.TheVariants.{Device, NotFound, IsADirectory}, integrity.digest.Hash.{Hash}}, Integrity.{IsHash}, Laws.{IsKeyDigest}, Paths.{Names, names_of, content_names, bucket_names_of}}
 use Rattle.cacache_store.specs.{declared.store.{plain.PlainTemp.{PlainTemp}, step.Step.TheVariants.{MakeDirs, Persist, Append, Symlink, RemoveFile, RemoveDir}, answer.Answer.TheVariants.{Done, Took, Failed}}, Plain.{PlainStep, PlainAnswer}}
 use Rattle.cacache_disk.specs.{declared.{luck.Luck.{Luck, TheVariants.{Fail}}, node.Node.TheVariants.{Folder, File, Link}}, Tree.{Tree, look}}
 use Rattle.cacache_entry.specs.{Entry.{Entry, line_of}, FittingEntries.{IsEntry, IsWritable}, Bucket.{entries_of}}

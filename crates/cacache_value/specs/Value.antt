@@ -1,7 +1,7 @@
 -- What a cache holds, and what it holds in a tree.
 use Rattle.std.specs.Prelude.{ℕ, Bool, false, List, [], ◌∷◌, ◌++◌, Option, None, Some}
-use Rattle.cacache_core.specs.{declared.integrity.digest.Hash.{Hash}, PathNames.{Names}, Paths.{content_names, bucket_names_of}}
-use Rattle.cacache_disk.specs.{declared.node.Node.{Node, TheVariants.{Folder, File, Link}}, Rooted.{is_folder}, Tree.{Tree, look}}
+use Rattle.cacache_core.specs.{declared.integrity.digest.Hash.{Hash}, Paths.{Names, content_names, bucket_names_of}}
+use Rattle.cacache_disk.specs.{declared.node.Node.{Node, TheVariants.{Folder, File, Link}}, Tree.{is_folder, Tree, look}}
 use Rattle.cacache_entry.specs.{Entry.{Entry}, Bucket.{entries_of}}
 use Rattle.cacache_value.specs.Kinds.{node_below}
 

@@ -1,10 +1,10 @@
 -- The laws of the cache's value.
 use Rattle.std.specs.Prelude.{◌≡◌, ◌≤◌, ◌<◌, ℕ, Bool, false, List, [], ◌∷◌, ◌++◌, Option, None, Some, Ok, length}
-use Rattle.cacache_core.specs.{PathNames.{Names, names_of}, Paths.{bucket_names_of}}
+use Rattle.cacache_core.specs.Paths.{Names, names_of, bucket_names_of}
 use Rattle.cacache_store.specs.{declared.store.step.Step.TheVariants.{Append}, Plain.{PlainStep, PlainAnswer}}
-use Rattle.cacache_disk.specs.{declared.luck.Luck.{Luck}, Tree.{Tree, bare}, Apply.{apply}, Rooted.{Rooted}}
+use Rattle.cacache_disk.specs.{declared.luck.Luck.{Luck}, Tree.{Tree, bare, Rooted}, Apply.{apply}}
 use Rattle.cacache_entry.specs.{Entry.{Entry, line_of, closed_line}, FittingEntries.{IsEntry, IsWritable}}
-use Rattle.cacache_value.specs.{Kinds.{is_path_of}, Value.{Value, wide_value, value_of_tree, cache_part}, Acts.{Act, Nothing, Drop, AddEntries, amount_left, act_of, change, list_of}, Placed.{Placed, Proper}, Traces.{Move, IsTrace, tree_after, acts}, Shows.{ReadsShow}, OpeningTrees.{with_files, LieApart, IsOpening}}
+use Rattle.cacache_value.specs.{Kinds.{is_path_of}, Value.{Value, wide_value, value_of_tree, cache_part}, Acts.{Act, Nothing, Drop, AddEntries, amount_left, act_of, change, list_of, Move, IsTrace, tree_after, acts}, Placed.{Placed, Proper, with_files, LieApart, IsOpening}, Shows.{ReadsShow}}
 
 -- ---- one step
 

@@ -1,6 +1,6 @@
 //! Single cases, which show that the definitions say what they should.
 ghost use Rattle.std.specs.Prelude.{◌≡◌, ◌++◌, List, ℕ, Ok};
-ghost use Rattle.cacache_core.specs.{declared.integrity.digest.Hash.{Hash}, PathNames.{Names, names_of}, Paths.{content_names, bucket_names_of}};
+ghost use Rattle.cacache_core.specs.{declared.integrity.digest.Hash.{Hash}, Paths.{Names, names_of, content_names, bucket_names_of}};
 ghost use Rattle.cacache_disk.specs.{declared.luck.Luck.{Luck}, Tree.{Tree}};
 ghost use Rattle.cacache_entry.specs.{Entry.{Entry}, FittingEntries.{IsEntry, IsWritable}};
 ghost use Rattle.cacache_value.specs.{Value.{Value}, SingleCases.{KindCases, TreeCases, LinkCases, LinesAppend, ContentCases, RemovedBucketsGo, OtherBucketsKeep, FolderCases, row_folder}};

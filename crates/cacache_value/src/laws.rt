@@ -1,6 +1,6 @@
 //! The laws of the cache's value, each on a function that does nothing.
 ghost use Rattle.std.specs.Prelude.{List, ℕ};
-ghost use Rattle.cacache_value.specs.{ValueLaws.{StepsKeepPlaced, StepsAct, StepsKeepRooted, TreesShow, WholeLinesAdd, TornLinesAddNone, NothingLeftIsNothing, TracesAct, TracesShow, BucketsGrow, FilesOpen}, PathKinds.{PathsAreFor, FoldersAreWays}};
+ghost use Rattle.cacache_value.specs.{ValueLaws.{StepsKeepPlaced, StepsAct, StepsKeepRooted, TreesShow, WholeLinesAdd, TornLinesAddNone, NothingLeftIsNothing, TracesAct, TracesShow, BucketsGrow, FilesOpen}, Kinds.{PathsAreFor, FoldersAreWays}};
 
 /// A step that a call may make changes what the cache holds by its act, and leaves a tree on which
 /// the next one can be made. On each such tree reading steps show what the cache holds.
@@ -33,7 +33,7 @@ pub fn opening_laws()
 
 /// The paths of contents, buckets and temporary files are for what they should be, and so are their
 /// folders.
-pub fn path_laws()
+pub fn path_kind_laws()
     ensures kinds { (cache : List ℕ) → PathsAreFor cache }
     ensures folders { (cache : List ℕ) → FoldersAreWays cache }
 {}

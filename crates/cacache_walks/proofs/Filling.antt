@@ -96,17 +96,6 @@ module _ {S C N : Type 0} where
       let same : items_left before.visit before.walk ≡ items_left (Some v) before.walk = ap (λ o. items_left o before.walk) is in
       omega (arith, same, below, rest)
 
-  pub some_left : (before : Ls S C N) (v : Visit) (bound : ℕ) → before.visit ≡ Some v → left before ≤ bound → 0 < bound
-  some_left before v bound is rest =
-      let same : items_left before.visit before.walk ≡ before.walk.room + 1 = ap (λ o. items_left o before.walk) is in
-      omega (arith, same, rest)
-
-  pub none_left : (ls : Ls S C N) → ls.visit ≡ None → ls.ready.items ≡ [] → left ls ≡ 0
-  none_left ls over none =
-      let a : length ls.ready.items ≡ 0 = ap length none in
-      let b : items_left ls.visit ls.walk ≡ 0 = ap (λ o. items_left o ls.walk) over in
-      omega (arith, a, b)
-
   pub given_fewer : (before after : Ls S C N) (x : Item) (bound : ℕ) → after.walk ≡ before.walk → after.visit ≡ before.visit → before.ready.items ≡ after.ready.items ++ x ∷ [] → left before ≤ bound → left after < bound
   given_fewer before after x bound walk visit is h =
       let a : length before.ready.items ≡ length after.ready.items + 1 = ap length is ∙ length-append after.ready.items (x ∷ []) in

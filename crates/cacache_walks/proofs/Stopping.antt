@@ -2,12 +2,12 @@
 use Rattle.std.proofs.{Common.{◌≡◌, ◌≤◌, ◌≢◌, ℕ, List, [], ◌∷◌, ◌++◌, Option, None, Some, Result, Ok, Err, IfOk, IfErr, inl, inr, refl, sym, subst, ◌-◌, Bool, true, false, cond, nat_le, length, append-nil}, lemmas.Bool.{leb-false}}
 use Rattle.std.specs.Prelude.{IsErrAnd}
 use Rattle.cacache_core.specs.declared.errors.{Error.{Error, TheVariants.{IoError, OutOfMemory}}, Fault.{Fault, TheVariants.{NotFound, TooDeep}}}
-use Rattle.cacache_store.specs.{declared.store.{log.LogItem.{LogItem}, answer.{Name.{Name}, Answer.TheVariants.{Names, Failed, NoMemory}}, step.Step.TheVariants.{ReadDir}}, Plain.{PlainAnswer}, Fits.{Fits, Logs}}
+use Rattle.cacache_store.specs.{declared.store.{log.LogItem.{LogItem}, answer.{Name.{Name}, Answer.TheVariants.{Names, Failed, NoMemory}}, step.Step.TheVariants.{ReadDir}}, Plain.{PlainAnswer, Fits, Logs}}
 use Rattle.cacache_calls.specs.{Answers.{names_in}, Runs.{Moves, Gains}, declared.visit.{Task.{Task, TheVariants.{Make}}, Visit.{Visit, TheVariants.{Enter, ReadBucket}}}, Walking.{after_visit, entered, tasks_of, too_many, walk_on}}
 use Rattle.cacache_calls.specs.declared.answers.Refusal.TheVariants as refusals
 use Rattle.cacache_walks.specs.declared.walk.Walk as walks
-use Rattle.cacache_walks.specs.{WalkStates.{Counts, WalksAt, pending, walk_of}, Reading.{Folder, HasDeeper, IsErrorOf, IsOwnError, ReadsFolders, StopsWalk, files_shown, folders_in, names_shown}, Listing.{StopsAt}, WalkSteps.{AnswerShows, Answered, GoesFrom, Matches, WalkStands, StopsIn, StopsVisit}}
-use Rattle.cacache_walks.proofs.{Stumbling.{deeper_or_none, lists}, VisitSteps.{lists_nothing, tasks_match, unmoved}, WholeWalk.{gains_both}}
+use Rattle.cacache_walks.specs.{WalkStates.{Counts, WalksAt, pending, walk_of, AnswerShows, Answered, GoesFrom, Matches, WalkStands, StopsIn, StopsVisit}, Reading.{Folder, HasDeeper, IsErrorOf, IsOwnError, ReadsFolders, StopsWalk, files_shown, folders_in, names_shown}, Listing.{StopsAt}}
+use Rattle.cacache_walks.proofs.{Stumbling.{deeper_or_none, lists}, VisitSteps.{lists_nothing, tasks_match, unmoved}, Walks.{gains_both}}
 
 -- ---- in one folder
 

@@ -3,7 +3,7 @@ use Rattle.std.proofs.{Common.{◌≡◌, ◌+◌, ◌<◌, ℕ, List, [], ◌�
 use Rattle.cacache_core.specs.declared.errors.{Error.{Error}, Fault.{Fault}}
 use Rattle.cacache_calls.specs.{declared.{reply.Reply.TheVariants.{Listed, Done}, visit.{Task.{Task, TheVariants.{Make, Stumble}}, Visit.{Visit}}}, State.{State, Item, walking, over, Walk}, Walking.{failed, walk_on, too_many, most}, Runs.{Moves, plain_item}}
 use Rattle.cacache_walks.specs.declared.walk.Walk as walks
-use Rattle.cacache_walks.specs.{WalkStates.{WalksAt, pending, walk_of}, Reading.{Folder, HasDeeper, StopsWalk}, WalkSteps.{Matches, WalkStands}}
+use Rattle.cacache_walks.specs.{WalkStates.{WalksAt, pending, walk_of, Matches, WalkStands}, Reading.{Folder, HasDeeper, StopsWalk}}
 
 abbrev pub items_at : State → List Item
 items_at (walking w v todo) = w.items

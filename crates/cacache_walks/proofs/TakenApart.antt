@@ -1,10 +1,9 @@
 -- What the text of a path shows after the path is taken apart.
-use Rattle.std.proofs.{Common.{◌≡◌, ℕ, ◌<◌, ◌≤◌, ◌+◌, ◌-◌, List, [], ◌∷◌, ◌++◌, Some, Ok, Err, length, slice_index, take, drop, refl, sym, ap, ap₂, ◌∙◌, subst, arith, append-nil, length-append}, lemmas.{Bool.{le-ltb}, List.{take_all, length-drop, Elements.{All-nil, All-cons}}}}
+use Rattle.std.proofs.{Common.{◌≡◌, ℕ, ◌<◌, ◌≤◌, ◌+◌, ◌-◌, List, [], ◌∷◌, ◌++◌, Some, Ok, Err, length, slice_index, take, drop, refl, sym, ap, ap₂, ◌∙◌, subst, arith, append-nil, length-append}, lemmas.{Bool.{le-ltb}, List.{take_all, length-drop}}}
 use Rattle.std.specs.Prelude.{IfSome}
-use Rattle.base64.specs.GeneralPurpose.{IsBytes}
 use Rattle.hex.{specs.Hex.{encode_lower, lower_digits, decode_of}, proofs.HexLemmas.{length-encode_with, decode_of-encode_lower}}
 use Rattle.cacache_core.proofs.{PathTexts.{joined_texts_spell}, ProperNames.{proper_content_folder, proper_content}}
-use Rattle.cacache_core.specs.{declared.{integrity.{algorithm.Algorithm.{Algorithm, TheVariants.{Sha1}}, digest.Hash.{Hash}}, errors.Error.{Error, TheVariants.{IntegrityError, OutOfMemory}}}, Integrity.{IsHash, hash_of, address}, Paths.{join, joined, slashed, cut_digits, content_area, content_names}, Texts.{name_of, long_hash}, Refusals.{IsReadFailure}}
+use Rattle.cacache_core.specs.{declared.{integrity.{algorithm.Algorithm.{Algorithm, TheVariants.{Sha1}}, digest.Hash.{Hash}}, errors.Error.{Error, TheVariants.{IntegrityError, OutOfMemory}}}, Integrity.{IsHash, hash_of, address}, Paths.{join, joined, slashed, cut_digits, content_area, content_names}, Texts.{name_of, long_hash}, Errors.{IsReadFailure}}
 use Rattle.cacache_walks.specs.Addresses.{names_text, by_letter, digits_of}
 
 -- ---- taken apart

@@ -1,10 +1,10 @@
 -- The state to which the answer to a visit's step takes a listing.
 use Rattle.std.proofs.Common.{◌≡◌, inl, inr, ℕ, ◌+◌, ◌<◌, ◌≤◌, List, [], ◌++◌, map, Option, Some, None, Bool, true, false, cond, Result, Ok, Err, refl, ap, length, arith}
 use Rattle.cacache_core.specs.declared.errors.Error.{Error, TheVariants.{OutOfMemory}}
-use Rattle.cacache_store.specs.{declared.store.log.LogItem.{LogItem}, Plain.{PlainStep, PlainAnswer}, Fits.{Fits, Logs}}
+use Rattle.cacache_store.specs.{declared.store.log.LogItem.{LogItem}, Plain.{PlainStep, PlainAnswer, Fits, Logs}}
 use Rattle.cacache_calls.specs.declared.command.Command.TheVariants as commands
 use Rattle.cacache_calls.specs.{declared.{reply.Reply.TheVariants.{Listed, Done, Refused}, visit.Visit.{Visit}}, State.{State, Item, Site, over}, Table.{wants, after}, Runs.{Gone, Ran, EndsAs, plain_item, without_message, effort}, Walking.{visit_step, walk_ends, most}}
-use Rattle.cacache_calls.proofs.{Effort.{falls}, Going.{answer_cases, gone_on, gone_over, gone_lost, unmoved}, ListReplies.{lists_shown}, Memory.{no_memory_after, memory_said}, Promises.{calls_answer}}
+use Rattle.cacache_calls.proofs.{Effort.{falls}, Going.{answer_cases, gone_on, gone_over, gone_lost, unmoved, no_memory_after, memory_said}, ListReplies.{lists_shown}, Promises.{calls_answer}}
 use Rattle.cacache_walks.specs.{declared.walk.Walk.{Walk}, WalkStates.{Bounds, WalksAt, WalkLeads, walk_of}, Iterating.{Lists, listing_state, steps_left, items_left}}
 
 module _ (cache : List ℕ) (old new : Option (List LogItem)) where

@@ -1,13 +1,13 @@
 -- How the walk goes on after a visit.
 use Rattle.std.proofs.{Common.{◌≡◌, ◌+◌, ◌-◌, ◌<◌, ◌≤◌, ℕ, List, [], ◌∷◌, ◌++◌, inl, Bool, true, false, cond, nat_le, nat_lt, Option, None, Some, refl, sym, ap, subst, ◌∙◌, length, arith, append-nil}, lemmas.{List.Elements.{All-nil}, Bool.{ltb-false, ltb-true}}}
 use Rattle.std.specs.List.{cons_option}
-use Rattle.cacache_core.specs.{declared.errors.{Error.{Error}, Fault.TheVariants.{NotFound, TooDeep}}, Paths.{join}, PathNames.{IsProperName}}
-use Rattle.cacache_store.specs.{declared.store.{log.LogItem.{LogItem}, answer.{Kind.{Kind}, Name.{Name}, Answer.TheVariants.{Names, Failed, NoMemory}}, step.Step.TheVariants.{ReadDir}}, Plain.{PlainAnswer}, Fits.{Fits, AreProperNames}}
+use Rattle.cacache_core.specs.{declared.errors.{Error.{Error}, Fault.TheVariants.{NotFound, TooDeep}}, Paths.{join, IsProperName}}
+use Rattle.cacache_store.specs.{declared.store.{log.LogItem.{LogItem}, answer.{Kind.{Kind}, Name.{Name}, Answer.TheVariants.{Names, Failed, NoMemory}}, step.Step.TheVariants.{ReadDir}}, Plain.{PlainAnswer, Fits, AreProperNames}}
 use Rattle.cacache_store.specs.declared.store.answer.Kind.TheVariants as kinds
 use Rattle.cacache_calls.specs.{State.{walking}, declared.visit.{Task.{Task, TheVariants.{Make, Stumble}}, Visit.{Visit, TheVariants.{Enter, ReadBucket}}}, Walking.{failed, walk_on, tasks_of, task_for_name, entered, after_visit, too_many, visit_step}, Table.{after}, Runs.{Gains, Moves, effort}}
 use Rattle.cacache_calls.proofs.Effort.{falls}
 use Rattle.cacache_walks.specs.declared.walk.Walk as walks
-use Rattle.cacache_walks.specs.{WalkStates.{Counts, WalksAt, pending, walk_of}, Reading.{Folder, folder_as, folders_in, file_paths, names_shown, StopsWalk}, WalkSteps.{AnswerShows, Answered, Matches, WalkStands, GoesFrom, steps_left}}
+use Rattle.cacache_walks.specs.{WalkStates.{Counts, WalksAt, pending, walk_of, AnswerShows, Answered, Matches, WalkStands, GoesFrom, steps_left}, Reading.{Folder, folder_as, folders_in, file_paths, names_shown, StopsWalk}}
 use Rattle.cacache_walks.proofs.Stumbling.{lists, none_at, no_items, led, same_left}
 
 -- ---- the tasks of a folder

@@ -1,7 +1,7 @@
 -- A walk that reads a folder and all folders below it, and the files and links that it finds.
 use Rattle.std.specs.{Prelude.{◌≡◌, ◌⊎◌, ◌≤◌, ◌<◌, ◌+◌, ◌-◌, ℕ, List, [], ◌∷◌, ◌++◌, Option, None, Some, Contains, length, filter_map, unwrap_or}, List.{flat_map}}
 use Rattle.cacache_core.specs.{declared.errors.{Error.{Error, TheVariants.{IoError, OutOfMemory}}, Fault.TheVariants.{NotFound, TooDeep}}, Paths.{join}}
-use Rattle.cacache_store.specs.{declared.store.{answer.{Kind.{Kind}, Name.{Name}, Answer.TheVariants.{Names, Failed}}, step.Step.TheVariants.{ReadDir}}, Plain.{PlainStep, PlainAnswer}, Fits.{Fits}}
+use Rattle.cacache_store.specs.{declared.store.{answer.{Kind.{Kind}, Name.{Name}, Answer.TheVariants.{Names, Failed}}, step.Step.TheVariants.{ReadDir}}, Plain.{PlainStep, PlainAnswer, Fits}}
 use Rattle.cacache_store.specs.declared.store.answer.Kind.TheVariants as kinds
 use Rattle.cacache_calls.specs.Runs.{Moves}
 

@@ -1,9 +1,9 @@
 //! The items that a bucket lists: each of its keys once, if the key's lookup finds an entry.
 ghost use Rattle.std.specs.{Prelude.{◌≡◌, ◌++◌, IfOk, IfErr, OnOk, Ok, false, map, option_map, bytes_eq, string_bytes}, List.{list_any}, Option.{option_to_list}};
 ghost use Rattle.cacache_core.specs.declared.errors.Error.TheVariants.{OutOfMemory};
-ghost use Rattle.cacache_entry.specs.{Bucket.{entries_of}, Latest.{latest as latest_of}, View.{entry_view, found_view}};
+ghost use Rattle.cacache_entry.specs.{Bucket.{entries_of, latest as latest_of}, View.{entry_view, found_view}};
 ghost use Rattle.cacache_calls.specs.{Runs.{plain_item}, Walking.{items_in, items_of}};
-ghost use Rattle.cacache_walks.specs.Listed.{keys_in, added_at, own_answer, EndsWith};
+ghost use Rattle.cacache_walks.specs.Listing.{keys_in, added_at, own_answer, EndsWith};
 
 use crate::deciding::deciders;
 use cacache_calls::Found;

@@ -1,7 +1,7 @@
 //! Which entries of a bucket decide the lookups of its keys.
 ghost use Rattle.std.specs.{Prelude.{◌≡◌, Some, None, List, ℕ, IfOk, OnOk, if◌then◌else◌, is_some, map}, Option.{option_or}};
-ghost use Rattle.cacache_entry.specs.{Latest.{answer_of, answer_to}, View.{entry_view}};
-ghost use Rattle.cacache_walks.specs.Listed.{decider, entry_in};
+ghost use Rattle.cacache_entry.specs.{Bucket.{answer_of, answer_to}, View.{entry_view}};
+ghost use Rattle.cacache_walks.specs.Listing.{decider, entry_in};
 
 use cacache_core::keeping::let_go;
 use cacache_entry::{SerializableMetadata, answer_of_entry};

@@ -3,7 +3,7 @@ ghost use Rattle.std.specs.{Prelude.{◌≡◌, ◌<◌, ◌≤◌, ℕ, List, [
 ghost use Rattle.cacache_core.specs.declared.errors.Error.TheVariants.{OutOfMemory};
 ghost use Rattle.cacache_store.specs.declared.store.log.LogItem.{LogItem};
 ghost use Rattle.cacache_calls.specs.{Runs.{plain_item}, State.{Item}};
-ghost use Rattle.cacache_walks.specs.{Lending.{EnvRests}, Iterating.{Filled, Gave, IsListing, KeepsEnv, NextGives, Shortens, VisitGives, item_view, left}};
+ghost use Rattle.cacache_walks.specs.{Listing.{EnvRests}, Iterating.{Filled, Gave, IsListing, KeepsEnv, NextGives, Shortens, VisitGives, item_view, left}};
 
 use crate::walk::Walk;
 use cacache_calls::{Found, Visit};

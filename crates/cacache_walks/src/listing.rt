@@ -1,7 +1,7 @@
 //! The call that lists the index.
 ghost use Rattle.std.specs.{Prelude.{◌≡◌, [], IfOk, IfErr}, Borrow.{sem}};
 ghost use Rattle.cacache_core.specs.declared.errors.Error.TheVariants.{OutOfMemory};
-ghost use Rattle.cacache_walks.specs.{Lending.{EnvRests}, Iterating.{Gave, IsListing}};
+ghost use Rattle.cacache_walks.specs.{Listing.{EnvRests}, Iterating.{Gave, IsListing}};
 
 use crate::iterator::Ls;
 use cacache_core::errors::Result;

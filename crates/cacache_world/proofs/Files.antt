@@ -1,9 +1,9 @@
 -- Outside files, one by one.
 use Rattle.std.proofs.{Common.{◌≡◌, ◌<◌, ◌≤◌, ◌+◌, ◌==◌, ℕ, zero, suc, Bool, true, false, List, [], ◌∷◌, ◌++◌, Option, None, Some, Ok, take, length, get_or, slice_get, refl, sym, ap, subst, ◌∙◌, arith}, lemmas.{Bool.{eqb-true, eqb-false}, List.{take_more}}}
 use Rattle.std.specs.Prelude.{Result, Err}
-use Rattle.cacache_core.specs.{declared.errors.Fault.{Fault}, PathNames.{Names}}
+use Rattle.cacache_core.specs.{declared.errors.Fault.{Fault}, Paths.{Names}}
 use Rattle.cacache_disk.{specs.{Tree.{Tree, bare}, Apply.{planted}, LedTo.{and_then}}, proofs.FoundNodes.{and_then_ok}}
-use Rattle.cacache_value.specs.{Kinds.{Elsewhere, IsFor}, OpeningTrees.{with_files, LieApart}}
+use Rattle.cacache_value.specs.{Kinds.{Elsewhere, IsFor}, Placed.{with_files, LieApart}}
 use Rattle.cacache_world.specs.{WorldKept.{LiesApart, FilesAreApart}, declared.event.WorldFault.{WorldFault}, Faults.{CantPlace, CantOpen}}
 use Rattle.cacache_world.specs.declared.event.WorldFault.TheVariants as faults
 

@@ -4,4 +4,3 @@ pub mod MayBegin
 pub mod Played
 pub mod NamesOfPaths
 pub mod Files
-pub mod Losses

@@ -1,7 +1,7 @@
 -- Paths as names: what a loop over pieces or files has found.
 use Rattle.std.proofs.{Common.{◌≡◌, ◌==◌, ◌<◌, ◌≤◌, ◌+◌, ◌||◌, ◌&&◌, ◌⊎◌, inl, inr, ℕ, zero, suc, Bool, true, false, cond, not, List, [], ◌∷◌, None, Some, length, take, filter, get_or, refl, sym, ap, subst, ◌∙◌, arith}, lemmas.{Bool.{leb-true, leb-false}, List.{take_all}}}
 use Rattle.std.specs.{Prelude.{Ok, Err, Result, min, nat_le}, Bool.{nat_eq}, Result.{result_ok}, List.{list_any}, Cmp.Lexicographic.{pointwise}}
-use Rattle.cacache_core.specs.{declared.errors.Fault.{Fault, TheVariants.{InvalidInput}}, PathNames.{Names, home_of, names_of, pieces, is_above, is_name, is_bad}}
+use Rattle.cacache_core.specs.{declared.errors.Fault.{Fault}, Paths.{Names, home_of, names_of, pieces, is_above, is_name}}
 use Rattle.cacache_history.specs.Setup.{are_apart, apart_from_text, apart_from_files, same_place, has_file}
 
 -- ---- the names of a text
@@ -27,15 +27,6 @@ home_all path names n nul last so above =
 pub no_names : (path : List ℕ) → (length path == 0) ≡ true → None ≡ result_ok (names_of path)
 unfolding names_of
 no_names path e = rw e refl
-
--- a path is named as a folder is, unless its text is empty
-pub names_home : (path : List ℕ) → (length path == 0) ≡ false → home_of path ≡ result_ok (names_of path)
-unfolding names_of home_of
-names_home path e = rw e (by (is_bad path) (filter is_name (pieces path)))
-  where
-    by : (b : Bool) (names : Names) → cond b None (Some names) ≡ result_ok (cond b (Err InvalidInput) (Ok names))
-    by true names = refl
-    by false names = refl
 
 -- ---- paths that lie apart
 
@@ -67,15 +58,6 @@ pub apart_by_fronts : (ns ms : Names) (c : ℕ) → c ≡ min (length ns) (lengt
 apart_by_fronts ns ms c e =
     subst (λ c. not (pointwise (pointwise nat_eq) (take c ns) (take c ms)) ≡ are_apart ns ms) (sym e)
     (apart_fronts ns ms (min (length ns) (length ms)) (omega arith) (omega arith) (shorter (length ns) (length ms) (nat_le (length ns) (length ms)) refl))
-
--- apart from the text that has these names
-pub apart_some : (r : Result Names Fault) (names path : Names) → Some names ≡ result_ok r → are_apart names path ≡ apart_from_text r path
-apart_some (Ok found) names path e = let same : names ≡ found = cc in ap (λ n. are_apart n path) same
-apart_some (Err fault) names path e = absurd cc
-
-pub apart_none : (r : Result Names Fault) (path : Names) → None ≡ result_ok r → true ≡ apart_from_text r path
-apart_none (Ok found) path e = absurd cc
-apart_none (Err fault) path e = refl
 
 -- apart from the files of a front, and not from the next one
 pub one_near : (files : List (List ℕ × List ℕ)) (n : ℕ) (file : List ℕ × List ℕ) (path : Names) → n < length files → file ≡ get_or files n file
@@ -110,14 +92,6 @@ apart_more files n file path below here apart before =
     subst (λ m. apart_from_files (take m files) path ≡ true) next (apart_more-suc files n file path below here apart before)
 
 -- ---- paths that are the same
-
-pub same_some : (r : Result Names Fault) (names path : Names) (same : Bool) → Some names ≡ result_ok r → same ≡ same_place (Ok names) (Ok path) → same ≡ same_place r (Ok path)
-same_some (Ok found) names path same e is = let eq : names ≡ found = cc in subst (λ n. same ≡ same_place (Ok n) (Ok path)) eq is
-same_some (Err fault) names path same e is = absurd cc
-
-pub same_none : (r : Result Names Fault) (path : Names) → None ≡ result_ok r → false ≡ same_place r (Ok path)
-same_none (Ok found) path e = absurd cc
-same_none (Err fault) path e = refl
 
 none_same : (r s : Result Names Fault) → None ≡ result_ok s → same_place r s ≡ false
 none_same r (Ok found) e = absurd cc

@@ -4,7 +4,7 @@ use Rattle.cacache_core.specs.declared.errors.Error.TheVariants.{OutOfMemory}
 use Rattle.cacache_store.specs.Plain.{PlainStep}
 use Rattle.cacache_calls.specs.{declared.reply.Reply.{Reply, TheVariants.{Refused}}, State.{State, over}, Table.{wants}, Runs.{plain_reply}}
 use Rattle.cacache_jobs.{specs.Jobs.{OutAt, Tells}, proofs.Running.{out_wants, turn_at}}
-use Rattle.cacache_history.{specs.History.{Ends}, proofs.Histories.Runs.{memory_plain}}
+use Rattle.cacache_history.{specs.History.{Ends}, proofs.Histories.Places.{memory_plain}}
 use Rattle.cacache_world.specs.Turned.{DiskJob, JobStands, GoesInto, IsSaid}
 
 pub wanted_out : (job : DiskJob) (s : State) (step : PlainStep) → OutAt (λ temp. temp) job.standing s step → wants s ≡ Some step

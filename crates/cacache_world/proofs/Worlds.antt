@@ -1,12 +1,12 @@
 -- What a world keeps, with one more record.
 use Rattle.std.proofs.{Common.{◌≡◌, inl, Ok, ◌==◌, ◌<◌, ◌+◌, ℕ, zero, suc, Bool, true, false, cond, List, [], ◌∷◌, ◌++◌, Option, None, Some, IsTrue, replicate, slice_get, slice_set, option_map, refl, sym, ap, subst, ◌∙◌}, lemmas.Bool.{eqb-true, eqb-false}}
 use Rattle.cacache_disk.specs.{declared.luck.Luck.{Luck}, Tree.{Tree, bare}, Apply.{apply}}
-use Rattle.cacache_core.specs.PathNames.{home_of}
-use Rattle.cacache_value.specs.OpeningTrees.{LieApart, with_files}
+use Rattle.cacache_core.specs.Paths.{home_of}
+use Rattle.cacache_value.specs.Placed.{LieApart, with_files}
 use Rattle.cacache_calls.specs.{declared.{command.Command.{Command}, reply.Reply.{Reply}}, State.{State}, Table.{after, opening}, Runs.{plain_reply}}
 use Rattle.cacache_jobs.specs.Jobs.{Tells, can_go_on}
 use Rattle.cacache_history.specs.{declared.record.Record.{Record, TheVariants.{Began, Moved, Stopped}}, Setup.{Setup, call_site}, History.{Call, Now, History, Made, tree_in, initial, call_after, moved_call, unless_over, new_call, now_after, replayed, MayMove, MayCome, Legal, IsLegal}}
-use Rattle.cacache_world.specs.{declared.{turn.After.{After}, event.WorldFault.{WorldFault}}, Turned.{DiskJob, JobStands, StandsAfter, reply_after, said_of, job_of, IsMade}, WorldKept.{history_of, setup_of, adding, last, JobAt, Keeps, TellsOwn}, Admitted.{MayAsk, IsTurnedAway}, Faults.{IsFreeAt, IsUnready, IsFree, HasCall, CantBegin}}
+use Rattle.cacache_world.specs.{declared.{turn.After.{After}, event.WorldFault.{WorldFault}}, Turned.{DiskJob, JobStands, StandsAfter, reply_after, said_of, job_of, IsMade}, WorldKept.{history_of, setup_of, adding, last, JobAt, Keeps, TellsOwn}, Faults.{MayAsk, IsTurnedAway, IsFreeAt, IsUnready, IsFree, HasCall, CantBegin}}
 use Rattle.cacache_world.proofs.Turning.{over_wants_none}
 use Rattle.cacache_world.specs.declared.turn.After.TheVariants as ways
 use Rattle.cacache_world.specs.declared.event.Move.TheVariants as moves

@@ -4,7 +4,7 @@ ghost use Rattle.cacache_calls.specs.Linking.{based as based_of};
 ghost use Rattle.cacache_core.specs.Integrity.{IsIntegrity};
 ghost use Rattle.cacache_calls.specs.declared.command.Command.TheVariants as commands;
 ghost use Rattle.cacache_history.specs.{History.{NamesSource}, Setup.{Setup, is_outside as is_outside_of}};
-ghost use Rattle.cacache_world.specs.{WorldKept.{setup_of}, Admitted.{MayAsk, Judges, JudgesIn, IsTurnedAway}};
+ghost use Rattle.cacache_world.specs.{WorldKept.{setup_of}, Faults.{MayAsk, Judges, JudgesIn, IsTurnedAway}};
 
 use crate::event::WorldFault;
 use crate::names::{is_outside, may_take};

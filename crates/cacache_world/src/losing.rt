@@ -2,7 +2,7 @@
 ghost use Rattle.std.specs.Prelude.{◌≡◌, ◌∷◌, [], IfOk};
 ghost use Rattle.cacache_history.specs.Values.{steps_of};
 ghost use Rattle.cacache_loss.specs.{ChangedNames.{opening}, Moments.{after}, Running.{moment_of}};
-ghost use Rattle.cacache_world.specs.Losses.{LeftAfter};
+ghost use Rattle.cacache_world.specs.Played.{LeftAfter};
 
 use crate::outside::plant_all;
 use cacache_core::bytes::Bytes;

@@ -1,6 +1,6 @@
 //! Paths as names: which lie apart, and which are the same.
 ghost use Rattle.std.specs.{Prelude.{◌≡◌, ℕ, List, Ok, IfOk, option_map}, Result.{result_ok}};
-ghost use Rattle.cacache_core.specs.PathNames.{home_of, names_of};
+ghost use Rattle.cacache_core.specs.Paths.{home_of, names_of};
 ghost use Rattle.cacache_history.specs.Setup.{are_apart, apart_from_home, apart_from_text, apart_from_files, may_export, same_place, has_file as has_file_of, is_outside};
 ghost use Rattle.cacache_world.specs.WorldKept.{setup_of};
 

@@ -1,8 +1,8 @@
 //! The outside files, which links may lead to.
 ghost use Rattle.std.specs.Prelude.{◌≡◌, Ok, IfOk, IfErr, OnOk};
-ghost use Rattle.cacache_core.specs.PathNames.{home_of};
+ghost use Rattle.cacache_core.specs.Paths.{home_of};
 ghost use Rattle.cacache_disk.specs.{Apply.{planted as planted_tree}, Tree.{bare}};
-ghost use Rattle.cacache_value.specs.{Kinds.{Elsewhere, IsFor}, OpeningTrees.{with_files, LieApart}};
+ghost use Rattle.cacache_value.specs.{Kinds.{Elsewhere, IsFor}, Placed.{with_files, LieApart}};
 ghost use Rattle.cacache_world.specs.{Faults.{CantPlace, CantOpen}, WorldKept.{LiesApart, FilesAreApart}};
 
 use crate::event::WorldFault;

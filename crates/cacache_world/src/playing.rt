@@ -1,6 +1,6 @@
 //! Events in their order.
 ghost use Rattle.std.specs.Prelude.{◌≡◌, OnOk, OnErr, IfErr};
-ghost use Rattle.cacache_history.specs.{durable.{FewCalls.{FewCalls}, Outlasting.{Outlives}}, Headline.{Headline}};
+ghost use Rattle.cacache_history.specs.{durable.{QuietMoves.{FewCalls}, Outlasting.{Outlives}}, Headline.{Headline}};
 ghost use Rattle.cacache_world.specs.Played.{Happens, HappenAll, CantBe, StopAt};
 
 use crate::event::{Event, WorldFault};

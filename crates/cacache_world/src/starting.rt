@@ -1,8 +1,8 @@
 //! How a call begins.
 ghost use Rattle.std.specs.Prelude.{◌≡◌, ◌<◌, ◌+◌, ◌^◌, ℕ, IfOk, IfErr, OnOk, IsTrue, Some, None, codes, slice_get, vec_len, vec_capacity};
 ghost use Rattle.cacache_calls.specs.Table.{opening};
-ghost use Rattle.cacache_jobs.specs.{Jobs.{can_go_on}, Sites.{site_of}};
-ghost use Rattle.cacache_world.specs.{Turned.{JobStands}, WorldKept.{setup_of}, Admitted.{MayAsk}, Faults.{IsUnready}};
+ghost use Rattle.cacache_jobs.specs.{Jobs.{can_go_on}, JobStates.{site_of}};
+ghost use Rattle.cacache_world.specs.{Turned.{JobStands}, WorldKept.{setup_of}, Faults.{MayAsk, IsUnready}};
 
 use crate::admitting::admit;
 use crate::callers::{check_has_none, make_room};

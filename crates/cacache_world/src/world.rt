@@ -1,7 +1,7 @@
 //! Callers with calls that take turns on one disk.
 ghost use Rattle.std.specs.Prelude.{◌≡◌, IfOk, IfErr, OnOk, OnErr, []};
-ghost use Rattle.cacache_history.specs.{durable.{FewCalls.{FewCalls}, Outlasting.{Outlives}}, Headline.{Headline}, History.{IsLegal}, declared.record.Record.TheVariants.{Began, Stopped}};
-ghost use Rattle.cacache_world.specs.{WorldKept.{setup_of, history_of, last, FilesAreApart, AddsRecord, MovesOn}, declared.event.WorldFault.TheVariants.{OutOfMemory}, Losses.{LeftBy}, Faults.{CantMove, CantBegin, CantOpen}};
+ghost use Rattle.cacache_history.specs.{durable.{QuietMoves.{FewCalls}, Outlasting.{Outlives}}, Headline.{Headline}, History.{IsLegal}, declared.record.Record.TheVariants.{Began, Stopped}};
+ghost use Rattle.cacache_world.specs.{WorldKept.{setup_of, history_of, last, FilesAreApart, AddsRecord, MovesOn}, declared.event.WorldFault.TheVariants.{OutOfMemory}, Played.{LeftBy}, Faults.{CantMove, CantBegin, CantOpen}};
 
 use crate::callers::{check_has_call, idle, lift, make_room, note, place};
 use crate::event::{Move, WorldFault};

@@ -1,6 +1,6 @@
 //! Adds to a failure a text that says what failed.
 ghost use Rattle.std.specs.{Prelude.{◌≡◌, ℕ, List, Ok, IsErr, IsErrAnd, MatchResult, string_bytes}, IoError.{error_kind}};
-ghost use Rattle.cacache_core.specs.{declared.errors.Error.{Error, TheVariants.{IoError, SerdeError}}, Contexts.{fault_of, IsContextError, IsTextError}};
+ghost use Rattle.cacache_core.specs.{declared.errors.Error.{Error, TheVariants.{IoError, SerdeError}}, Errors.{fault_of, IsContextError, IsTextError}};
 
 use crate::errors::{Error, Fault, Result, SerdeCause};
 use crate::text::Text;

@@ -1,6 +1,6 @@
 //! The texts of errors, written out since a derive gives them no clause and no form `{:#}`.
 ghost use Rattle.std.specs.{Prelude.{Some}, Fmt.{Cut.{IsTextOrCut}, InlineText.{inline_text}}};
-ghost use Rattle.cacache_core.specs.{ErrorTexts.{error_text, refusal_text}, FaultTexts.{cause_text}, Texts.{integrity_text}};
+ghost use Rattle.cacache_core.specs.{Errors.{error_text, refusal_text, cause_text}, Texts.{integrity_text}};
 
 use crate::errors::{Error, IntegrityFault, SerdeCause};
 use crate::integrity::Integrity;

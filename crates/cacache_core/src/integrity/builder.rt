@@ -1,6 +1,6 @@
 //! Computes the integrity of bytes that come in pieces.
 ghost use Rattle.std.specs.Prelude.{◌≡◌, ◌++◌, ℕ, List, [], IfOk, IfErr};
-ghost use Rattle.cacache_core.specs.{declared.integrity.algorithm.Algorithm.TheVariants.{Sha256}, Hashers.{algorithm_of, Holds}, Integrity.{integrity_under}, Pieces.{WasFed, last_algorithm}};
+ghost use Rattle.cacache_core.specs.{declared.integrity.algorithm.Algorithm.TheVariants.{Sha256}, Hashers.{algorithm_of, Holds, WasFed, last_algorithm}, Integrity.{integrity_under}};
 
 use crate::errors::{Error, Result};
 use crate::integrity::algorithm::Algorithm;

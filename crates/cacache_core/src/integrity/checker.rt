@@ -1,6 +1,6 @@
 //! Checks bytes that come in pieces.
 ghost use Rattle.std.specs.Prelude.{◌≡◌, ◌++◌, ℕ, List, [], Some, IsOk, IfOk, IfErr};
-ghost use Rattle.cacache_core.specs.{declared.integrity.digest.Hash.{Hash}, Integrity.{Meets, strongest, actual}, Pieces.{Compares}, Refusals.{IsCheckFailure}};
+ghost use Rattle.cacache_core.specs.{declared.integrity.digest.Hash.{Hash}, Integrity.{Meets, strongest, actual}, Hashers.{Compares}, Errors.{IsCheckFailure}};
 
 use crate::errors::Result;
 use crate::integrity::algorithm::Algorithm;

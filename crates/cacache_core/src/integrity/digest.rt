@@ -2,7 +2,7 @@
 ghost use Rattle.std.{specs.{Prelude.{◌≡◌, ◌↔◌, Some, IsTrue}, Bool.{nat_eq}, Fmt.{debug_list, decimal}, Cmp.Lexicographic.{pointwise, nat_list_eq_equiv}}, proofs.Common.{refl}};
 ghost use Rattle.std.specs.Cmp;
 ghost use Rattle.std.specs.Hash as fed;
-ghost use Rattle.cacache_core.specs.{Comparing.{hash_cmp, hash_cmp-po, hash_cmp-total, hash_cmp-ties, hash_fed}, Same.{same_hash, same_hash-Decides, same_hash-equiv}, Texts.{hash_text}};
+ghost use Rattle.cacache_core.specs.{Comparing.{hash_cmp, hash_cmp-po, hash_cmp-total, hash_cmp-ties, hash_fed, same_hash, same_hash-Decides, same_hash-equiv}, Texts.{hash_text}};
 
 use crate::integrity::algorithm::Algorithm;
 use base64::display::Base64Display;

@@ -1,7 +1,7 @@
 //! Hashers that take their input in pieces.
 ghost use Rattle.std.specs.Prelude.{◌≡◌, ◌≤◌, ◌++◌, ℕ, List, [], IfOk, IfErr, length};
 ghost use Rattle.base64.specs.GeneralPurpose.{IsBytes};
-ghost use Rattle.cacache_core.specs.{Digests.{digest}, Hashers.{Holds, algorithm_of, finished_bytes}, Integrity.{integrity_under}};
+ghost use Rattle.cacache_core.specs.{Integrity.{digest, integrity_under}, Hashers.{Holds, algorithm_of, finished_bytes}};
 
 use crate::errors::{self, Error};
 use crate::integrity::algorithm::Algorithm;

@@ -1,7 +1,7 @@
 //! Parses integrity texts.
 ghost use Rattle.std.specs.Prelude.{◌≡◌, ◌<◌, ◌≤◌, ◌∷◌, [], ℕ, not, MatchOption, Ok, Err, IfOk, IfErr, IfSome, All, length, slice_index};
 ghost use Rattle.base64.specs.{Engines.{standard}, GeneralPurpose.{decode_of}};
-ghost use Rattle.cacache_core.specs.{Integrity.{IsHash, strongest_first}, Refusals.{IsReadFailure}, Texts.{is_blank as is_blank_of, words as words_of, read_word, read_words, decoded_hash}};
+ghost use Rattle.cacache_core.specs.{Integrity.{IsHash, strongest_first}, Errors.{IsReadFailure}, Texts.{is_blank as is_blank_of, words as words_of, read_word, read_words, decoded_hash}};
 
 use crate::errors::{Error, IntegrityFault, Result};
 use crate::integrity::algorithm::Algorithm;

@@ -3,7 +3,7 @@ ghost use Rattle.std.specs.Prelude.{◌≡◌, ◌≤◌, ◌∷◌, [], ◌↔�
 ghost use Rattle.std.specs.Cmp;
 ghost use Rattle.base64.specs.GeneralPurpose.{IsBytes};
 ghost use Rattle.hex.specs.Hex.{encode_lower};
-ghost use Rattle.cacache_core.specs.{Hashers.{finished_bytes, Holds, algorithm_of}, Integrity.{IsIntegrity, IsHash, HasDigest, IsHexOf, Meets, ShareDigest, hash_of, strongest, address as address_of, actual, integrity_under}, Refusals.{IsCheckFailure, IsReadFailure}, Same.{same_hashes, same_hashes-equiv}, Texts.{integrity_text, long_hash, read_integrity}};
+ghost use Rattle.cacache_core.specs.{Hashers.{finished_bytes, Holds, algorithm_of}, Integrity.{IsIntegrity, IsHash, HasDigest, IsHexOf, Meets, ShareDigest, hash_of, strongest, address as address_of, actual, integrity_under}, Errors.{IsCheckFailure, IsReadFailure}, Comparing.{same_hashes, same_hashes-equiv}, Texts.{integrity_text, long_hash, read_integrity}};
 
 mod making;
 mod order;
@@ -46,7 +46,7 @@ impl Integrity {
     /// let sri = Integrity::parse(alloc, "sha1-qvTGHdzF6KLavt4PO0gs2a6pQ00=")?;
     /// let algorithm = sri.pick_algorithm(); // Algorithm::Sha1
     /// ```
-    #[tactic(auto, using(crate::proofs::ReadLemmas::read_some, crate::proofs::ReadLemmas::read_none, crate::proofs::ReadLemmas::read_failed, crate::proofs::Order::ordered_is_integrity))]
+    #[tactic(auto, using(crate::proofs::Reading::read_some, crate::proofs::Reading::read_none, crate::proofs::Reading::read_failed, crate::proofs::Order::ordered_is_integrity))]
     pub fn parse(alloc: Global, text: &str) -> Result<Integrity>
         ensures ok { IfOk result (λ i. read_integrity text.now ≡ Ok i) }
         ensures err { IfErr result (IsReadFailure (read_integrity text.now)) }

@@ -1,8 +1,8 @@
 //! A store in memory that keeps its log.
 ghost use Rattle.std.specs.{Prelude.{◌≡◌, ◌∷◌, ◌++◌, [], ◌<◌, Some, Err, IfOk, IfErr, IfNone, OnOk, OnErr, OnSome, option_map, vec_len, vec_capacity}, Result.{result_err}};
 ghost use Rattle.cacache_core.specs.declared.errors.{Error.TheVariants.{OutOfMemory}, Fault.TheVariants.{Unsupported}};
-ghost use Rattle.cacache_store.specs.{declared.store.{log.LogItem.TheVariants.{Made, Foreign, ForeignFolder}, step.Step.TheVariants.{MakeDirs, Symlink}, answer.Answer.TheVariants.{Done}}, Fits.{Fits, Logs}};
-ghost use Rattle.cacache_disk.specs.{declared.luck.Luck.TheVariants.{Plain}, Apply.{apply, planted, fault_told}, memory.{ForeignLog.{logged, foreign_log}, Replay.{tree_of, HappensOn, IsLog, shown, AnsweredByDisk}, PlantRefusals.{IsDueTo, IsEarned}}};
+ghost use Rattle.cacache_store.specs.{declared.store.{log.LogItem.TheVariants.{Made, Foreign, ForeignFolder}, step.Step.TheVariants.{MakeDirs, Symlink}, answer.Answer.TheVariants.{Done}}, Plain.{Fits, Logs}};
+ghost use Rattle.cacache_disk.specs.{declared.luck.Luck.TheVariants.{Plain}, Apply.{apply, planted, fault_told}, Replay.{logged, foreign_log, tree_of, HappensOn, IsLog, shown, AnsweredByDisk, IsDueTo, IsEarned}};
 
 use crate::{Disk, Luck, TreeItem, TreeNode};
 use cacache_core::bytes::Bytes;

@@ -1,6 +1,6 @@
 //! All that is on a disk.
 ghost use Rattle.std.specs.Prelude.{◌≡◌, IfOk};
-ghost use Rattle.cacache_disk.specs.{AllStanding.{path_text, told_node, all_standing}, Rooted.{Rooted}};
+ghost use Rattle.cacache_disk.specs.{AllStanding.{path_text, told_node, all_standing}, Tree.{Rooted}};
 
 use crate::disk::Disk;
 use crate::node::Node;

@@ -1,6 +1,6 @@
 //! Copies of answers.
 ghost use Rattle.std.specs.Prelude.{◌≡◌, ◌≤◌, false, IfOk, length};
-ghost use Rattle.cacache_store.specs.Fits.{is_no_memory};
+ghost use Rattle.cacache_store.specs.Plain.{is_no_memory};
 ghost use Rattle.cacache_disk.specs.Apply.{taken};
 
 use cacache_core::bytes::Bytes;

@@ -1,16 +1,14 @@
 -- What a commit carries on its way: its bytes, or where its link leads.
-use Rattle.std.proofs.{Common.{arith, rules, ◌≡◌, ℕ, List, [], ◌∷◌, ◌++◌, Option, None, Some, Result, Ok, Err, length, take, drop, take-append-drop, refl, sym, ap, subst, ◌∙◌, append_assoc}, lemmas.Grind.{common_steps}}
-use Rattle.cacache_core.specs.{declared.errors.{Fault.{Fault}, SerdeCause.{SerdeCause}, Error.TheVariants.{IntegrityError}, IntegrityFault.TheVariants.{Check}}, PathNames.{Names}, Integrity.{integrity_under, actual}, Meeting.{meets}}
+use Rattle.std.proofs.{Common.{arith, rules, ◌≡◌, ℕ, List, [], ◌++◌, Option, None, Some, Result, Ok, take, drop, take-append-drop, sym, ap, subst, ◌∙◌, append_assoc}, lemmas.Grind.{common_steps}}
+use Rattle.cacache_core.specs.{declared.errors.{Fault.{Fault}, SerdeCause.{SerdeCause}}, Paths.{Names}, Integrity.{integrity_under}}
 use Rattle.cacache_store.specs.{declared.store.plain.{PlainTemp.{PlainTemp}, PlainFile.{PlainFile}}, Plain.{PlainStep, PlainAnswer}}
 use Rattle.cacache_store.specs.declared.store.step.Step.TheVariants as steps
 use Rattle.cacache_store.specs.declared.store.answer.Answer.TheVariants as answers
 use Rattle.cacache_disk.specs.{declared.{luck.Luck.{Luck}, node.Node.TheVariants.{File}}, Tree.{Tree, put}, LedTo.{free}, Apply.{apply, grown, taken, unless, made_temp}}
-use Rattle.cacache_calls.specs.{declared.{command.{Command.{Command}, Export.{Export}, How.{How, TheVariants.{Copy}}}, carried.{Commit.{Commit}, Aim.{Aim}, Lookup.{Lookup}, Content.{Content}}, visit.Visit.{Visit, TheVariants.{Enter}}}, StepPaths.{temp_path, content_path}, Exporting.{export_from, export_content, export, verified}, Looking.{found_content, found_for}, Walking.{visit_step}, State.{State, doing, creating, writing, syncing, persisting, linking, sizing, opening_file, hashing, walking, over, Site, Insertion, Hashing, to_verify, to_link, Errand, make_folder}, Answers.{temp_in, written_in, synced_in}, Common.{ends_with, errand_step}, Inserting.{insertion, deletion, unless_refused, refused_cause}, Linking.{link_target, after_read}, Table.{wants, after, opening}}
-use Rattle.cacache_calls.proofs.{Branches.{cond_leads}, Closed.{AnyWalk, ClosedCommit, ClosedWalk, Closed, kept}, Leading.{inserts as adds, places}, Visits.{AnyVisit, any_visits}, Sound.{some_is}}
+use Rattle.cacache_calls.specs.{declared.{command.{Command.{Command}, Export.{Export}, How.{How}}, carried.{Commit.{Commit}, Aim.{Aim}, Lookup.{Lookup}, Content.{Content}}, visit.Visit.{Visit}}, Steps.{temp_path, content_path}, Reading.{export_from, export_content, export, verified, found_for}, Walking.{visit_step}, State.{State, doing, creating, writing, syncing, persisting, linking, sizing, opening_file, hashing, Site, Insertion, Hashing, to_verify, to_link, Errand}, Answers.{temp_in, written_in, synced_in}, Common.{errand_step}, Inserting.{unless_refused}, Linking.{link_target, after_read}, Table.{wants, after, opening}}
+use Rattle.cacache_calls.proofs.{Going.{cond_leads, inserts as adds, places}, Closed.{AnyWalk, ClosedCommit, ClosedWalk, Closed, kept}, Keys.{AnyVisit, any_visits}, Sound.{some_is}}
 use Rattle.cacache_calls.specs.declared.command.Command.TheVariants as commands
-use Rattle.cacache_calls.specs.declared.command.Source.TheVariants as sources
-use Rattle.cacache_entry.specs.Latest.{Found}
-use Rattle.cacache_calls.specs.declared.carried.Aim.TheVariants as aims
+use Rattle.cacache_entry.specs.Bucket.{Found}
 use Rattle.cacache_value.{specs.Acts.{Act, PutBytes, PutLink}, proofs.Shows.{apply_answer}}
 use Rattle.cacache_history.proofs.Syncing.{temp_synced}
 

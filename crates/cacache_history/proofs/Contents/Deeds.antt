@@ -1,14 +1,14 @@
 -- What turns do follows from the effects of their steps.
-use Rattle.std.proofs.{lemmas.{Grind.{common_steps}, Bool.{leb-true, leb-false}}, Common.{◌≡◌, ◌⊎◌, inl, inr, ◌≤◌, ℕ, Bool, true, false, nat_le, List, [], ◌∷◌, ◌++◌, Option, None, Some, Result, Ok, Err, length, take, refl, sym, ap, subst, ◌∙◌, append-nil, length-append, arith}}
-use Rattle.cacache_core.specs.{declared.errors.Fault.{Fault}, PathNames.{Names, names_of}}
+use Rattle.std.proofs.{lemmas.Grind.{common_steps}, Common.{◌≡◌, ◌⊎◌, ◌≤◌, ℕ, Bool, List, [], ◌∷◌, ◌++◌, Option, Some, Result, Ok, Err, length, take, refl, sym, ap, subst, ◌∙◌, append-nil, arith}}
+use Rattle.cacache_core.specs.{declared.errors.Fault.{Fault}, Paths.{Names, names_of}}
 use Rattle.cacache_store.specs.{declared.store.plain.PlainTemp.{PlainTemp}, Plain.{PlainStep, PlainAnswer}}
 use Rattle.cacache_store.specs.declared.store.step.Step.TheVariants as steps
 use Rattle.cacache_store.specs.declared.store.answer.Answer.TheVariants as answers
 use Rattle.cacache_disk.specs.{declared.luck.Luck.{Luck}, Tree.{Tree}, LedTo.{place, free, replaceable, known, kept}, Apply.{apply, unless}}
-use Rattle.cacache_entry.specs.{Entry.{Entry, line_of, closing, closed_line}, Bucket.{entries_of}, FittingEntries.{IsEntry, IsWritable}}
+use Rattle.cacache_entry.specs.{Entry.{Entry, line_of, closed_line}, Bucket.{entries_of}, FittingEntries.{IsEntry, IsWritable}}
 use Rattle.cacache_calls.specs.Effects.{Effect, stored, sent, changed, effect, effects_of, TookAll}
-use Rattle.cacache_value.specs.Acts.{PutBytes, PutLink, AddEntries, MakeFolders, act_at, act_with, folders_left, amount_left, act_of}
-use Rattle.cacache_value.proofs.{AppendedLines.{whole_closed, torn_closed}, Shows.{apply_answer}, FoundPaths.{unreachable}}
+use Rattle.cacache_value.specs.Acts.{PutBytes, AddEntries, MakeFolders, act_at, act_with, folders_left, amount_left, act_of}
+use Rattle.cacache_value.proofs.{MadeFolders.{whole_closed, torn_closed}, Shows.{apply_answer}, Applying.{unreachable}}
 use Rattle.cacache_history.specs.{Setup.{Setup}, History.{Turn}, Turns.{made_in, EachTurn}, Commits.{Deed, does, finds, deeds_of_act, finds_in, deeds}}
 use Rattle.cacache_history.proofs.{Contents.Carrying.{Own, own_bytes, own_link, put_own, Holds, IsTarget, Makes}, Histories.Holding.{TurnsHold}}
 

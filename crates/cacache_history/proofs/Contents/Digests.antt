@@ -1,11 +1,11 @@
 -- A computed digest is a hash, and makes an integrity.
-use Rattle.std.proofs.{lemmas.{Grind.{common_steps}, List.Elements.{All-nil, All-cons}}, Common.{rules, ◌≡◌, ◌<◌, refl, sym, ap, Contains, ℕ, zero, suc, List, [], ◌∷◌, take, arith, slice_index}}
-use Rattle.std.specs.{List.{slice_index_or}, Int.{w32, w64, to_be_bytes}}
+use Rattle.std.proofs.{lemmas.{Grind.{common_steps}, List.Elements.{All-nil, All-cons}}, Common.{rules, ◌≡◌, sym, ap, Contains, ℕ, zero, suc, List, [], ◌∷◌, take, arith, slice_index}}
+use Rattle.std.specs.Int.{w32, w64, to_be_bytes}
 use Rattle.base64.specs.GeneralPurpose.{IsBytes}
 use Rattle.sha2.specs.Sha256 as small
 use Rattle.sha2.specs.Sha512 as large
 use Rattle.sha2.proofs.{Facts256.{length-sha256}, Facts512.{length-sha384, length-sha512}}
-use Rattle.cacache_core.specs.{declared.integrity.{algorithm.Algorithm.{Algorithm, TheVariants.{Sha1, Sha256, Sha384, Sha512}}, digest.Hash.{Hash}}, Digests.{digest}, Integrity.{IsHash, IsIntegrity, Meets, hash_of, integrity_under, strongest_first}}
+use Rattle.cacache_core.specs.{declared.integrity.{algorithm.Algorithm.{Algorithm}, digest.Hash.{Hash}}, Integrity.{digest, IsHash, IsIntegrity, Meets, hash_of, integrity_under, strongest_first}}
 use Rattle.cacache_core.proofs.{Decoded.{bytes_append}, PathLemmas.{sha1_bytes, keys_have_digests}, ProperNames.{be_bytes}}
 
 word_bytes : (n : ℕ) → IsBytes (to_be_bytes w32 n)

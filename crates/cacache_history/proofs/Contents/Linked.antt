@@ -1,13 +1,12 @@
 -- A link's commit is that of the bytes that its call read from the target.
-use Rattle.std.proofs.{Common.{◌≡◌, ◌⊎◌, inl, inr, ℕ, ◌+◌, ◌==◌, ◌<◌, ◌^◌, false, cond, List, [], ◌∷◌, ◌++◌, Some, None, Result, Ok, Err, length, drop, refl, sym, ap, subst, ◌∙◌, append_assoc, append-nil, length-append, arith}, lemmas.{Option.{same_Some}, Bool.{ne_eqb}, List.{drop_all}}}
+use Rattle.std.proofs.{Common.{◌≡◌, ◌⊎◌, inl, inr, ℕ, ◌+◌, ◌==◌, ◌<◌, ◌^◌, false, cond, List, [], ◌∷◌, ◌++◌, Some, None, Result, length, drop, refl, sym, ap, subst, ◌∙◌, append_assoc, append-nil, length-append, arith}, lemmas.{Option.{same_Some}, Bool.{ne_eqb}, List.{drop_all}}}
 use Rattle.cacache_core.specs.declared.errors.Fault.TheVariants as faults
 use Rattle.cacache_core.specs.declared.errors.Error.{Error}
-use Rattle.cacache_store.specs.{declared.store.plain.{PlainFile.{PlainFile}, PlainTemp.{PlainTemp}}, Fits.{Fits}, Plain.{PlainAnswer}}
+use Rattle.cacache_store.specs.{declared.store.plain.{PlainFile.{PlainFile}, PlainTemp.{PlainTemp}}, Plain.{Fits, PlainAnswer}}
 use Rattle.cacache_store.specs.declared.store.step.Step.TheVariants as steps
 use Rattle.cacache_store.specs.declared.store.answer.Answer.TheVariants as answers
-use Rattle.cacache_calls.specs.{declared.{answers.Refusal.{Refusal}, command.{Link.{Link}, Put.{Put}}, reply.Reply.{Reply, TheVariants.{Refused}}, carried.Commit.{Commit}, target.Target.{Target}}, Answers.{done_in, file_in, got_in, length_in}, Common.{fails, refuse, go_on}, Effects.{effect, effects_of, IsRefused, DoesNothing, Commits}, Linking.{link_target, with_size, after_size, commit_for, after_read}, StepPaths.{temp_path, temp_folder, content_path}, Runs.{Moves, Runs}, State.{State, persisting, linking, confirming, sizing, opening_file, hashing, over, Site, to_link}, Storing.{persist, link, write_rest, secured, move_in}, Table.{piece, opening}, Verifying.{Gives, ReadsWhole}}
-use Rattle.cacache_calls.proofs.{Effects.{puts_commit}, Leading.{moves_on}}
-use Rattle.cacache_calls.specs.declared.answers.Refusal.TheVariants as refusals
+use Rattle.cacache_calls.specs.{declared.{answers.Refusal.{Refusal}, command.{Link.{Link}, Put.{Put}}, reply.Reply.{Reply, TheVariants.{Refused}}, carried.Commit.{Commit}, target.Target.{Target}}, Answers.{done_in, file_in, got_in, length_in}, Common.{fails, go_on}, Effects.{effect, effects_of, IsRefused, DoesNothing, Commits}, Linking.{link_target, with_size, after_size, commit_for, after_read}, Steps.{temp_path, temp_folder, content_path}, Runs.{Moves, Runs}, State.{State, persisting, linking, confirming, sizing, opening_file, hashing, over, Site, to_link}, Storing.{persist, link, write_rest, secured, move_in}, Table.{piece, opening}, Verifying.{Gives, ReadsWhole}}
+use Rattle.cacache_calls.proofs.{Effects.{puts_commit}, Going.{moves_on}}
 use Rattle.cacache_calls.specs.declared.command.Command.TheVariants as commands
 use Rattle.cacache_history.specs.Commits.{ReadsTarget}
 
@@ -97,9 +96,6 @@ module _ (r : Reply) where
   over_nothing e [] (inl is) = let same : Refused e ≡ r = cc in (refl, subst IsRefused same tt)
   over_nothing e [] (inr is) = (refl, subst IsRefused (sym is) tt)
   over_nothing e (m ∷ moves) run = absurd (let none : None ≡ Some m.0 = run.0 in cc)
-
-  refused_by : (refusal : Refusal) (moves : Moves) → Runs (refuse refusal fails) moves r → DoesNothing (effects_of moves) r
-  refused_by refusal moves run = grind (arith, over_nothing)
 
 -- ---- the target is read
 

@@ -1,6 +1,6 @@
 -- A content that is a link is of bytes that its target held when its call opened it.
-use Rattle.std.proofs.{Common.{arith, rules, ◌≡◌, inl, inr, ℕ, true, List, [], ◌∷◌, ◌++◌, Option, None, Some, option_map, Result, Ok, Err, refl, sym, ap, subst, ◌∙◌, append_assoc, append-nil}, lemmas.Grind.{common_steps}}
-use Rattle.cacache_core.specs.{declared.{errors.{Fault.{Fault}, Error.TheVariants.{OutOfMemory}}, integrity.digest.Hash.{Hash}}, Integrity.{IsHash}, PathNames.{Names}, Paths.{content_names}}
+use Rattle.std.proofs.{Common.{arith, rules, ◌≡◌, inl, inr, ℕ, true, List, [], ◌∷◌, ◌++◌, Option, None, Some, option_map, Result, Ok, refl, sym, ap, subst, ◌∙◌, append_assoc, append-nil}, lemmas.Grind.{common_steps}}
+use Rattle.cacache_core.specs.{declared.{errors.{Fault.{Fault}, Error.TheVariants.{OutOfMemory}}, integrity.digest.Hash.{Hash}}, Integrity.{IsHash}, Paths.{Names, content_names}}
 use Rattle.cacache_core.specs.declared.errors.Fault.TheVariants as faults
 use Rattle.cacache_store.specs.{declared.store.plain.PlainFile.{PlainFile}, Plain.{PlainAnswer}}
 use Rattle.cacache_store.specs.declared.store.step.Step.TheVariants as steps
@@ -8,10 +8,10 @@ use Rattle.cacache_store.specs.declared.store.answer.Answer.TheVariants as answe
 use Rattle.cacache_disk.specs.{declared.luck.Luck.{Luck}, Tree.{Tree}, LedTo.{file_at}, Apply.{apply, unless, opened, made_up}}
 use Rattle.cacache_calls.specs.{declared.{command.Command.{Command}, reply.Reply.{Reply, TheVariants.{Refused}}}, Linking.{link_target, commit_for}, Table.{opening}}
 use Rattle.cacache_calls.specs.declared.command.Command.TheVariants as commands
-use Rattle.cacache_value.specs.{Acts.{PutLink, act_of, change}, Kinds.{is_path_of}, Shows.{ShowsContent}, Value.{AtLink, Value, value_of_tree, wide_value}}
+use Rattle.cacache_value.specs.{Acts.{PutLink, act_of, change}, Kinds.{is_path_of}, Shows.{ShowsContent}, Value.{AtLink, Value, wide_value}}
 use Rattle.cacache_value.proofs.{Shows.{apply_answer}, Traces.{steps_act}}
-use Rattle.cacache_history.specs.{declared.record.Record.{Record, TheVariants.{Began, Moved, Stopped}}, Setup.{call_site, home}, History.{History, Turn, Call, Made, initial, turn_of, call_after, now_at, IsLegal, Reaches}, Turns.{made_in, EachTurn}, TurnPlaces.{TurnAt}, Values.{value_at, HasDigest}, Commits.{does, deeds, ReadsTarget, LinksTo, IsCase}, AddedEntries.{IsAmong}, LinkedContents.{HeldOnce, OnceHeld, LinksWereRight, LinksAreRight}}
-use Rattle.cacache_history.proofs.{Contents.{Carrying.{own_of, Makes, carries_makes}, Commits.{commits_are_cases}, Exporting.{on_disks}, OpenedContents.{EachAsks, OnDisks, run_asks, gives_all}, Righted.{put_at}, PutLinks.{link_step, from_act, among_last, link_deed, not_among, committed}}, Histories.{Holding.{TurnsHold, of_caller, made_proper, replay_more, legal_before, legal_after, held_at}, ShownTurns.{first_turn}, Runs.{reached, lost_run}, Turned.{reached_turns}, Values.{value_follows_acts}}}
+use Rattle.cacache_history.specs.{declared.record.Record.{Record, TheVariants.{Began, Moved, Stopped}}, Setup.{call_site, home}, History.{History, Turn, Call, Made, initial, turn_of, call_after, now_at, IsLegal, Reaches}, Turns.{made_in, EachTurn, TurnAt}, Values.{value_at, HasDigest}, Commits.{does, deeds, ReadsTarget, LinksTo, IsCase}, AddedEntries.{IsAmong}, LinkedContents.{HeldOnce, OnceHeld, LinksWereRight, LinksAreRight}}
+use Rattle.cacache_history.proofs.{Contents.{Carrying.{own_of, Makes, carries_makes}, Commits.{commits_are_cases, link_step, from_act, among_last, link_deed, not_among, committed}, OpenedContents.{on_disks, EachAsks, OnDisks, run_asks, gives_all}, Righted.{put_at}}, Histories.{Holding.{TurnsHold, of_caller, made_proper, replay_more, legal_before, legal_after, held_at}, ShownTurns.{first_turn}, Places.{reached, lost_run, reached_turns}, Values.{value_follows_acts}}}
 
 -- ---- what an opening shows
 

@@ -1,16 +1,16 @@
 -- A removal removes at most its content; that of a key also the key's bucket; a clearing adds nothing.
-use Rattle.std.proofs.{Common.{arith, ◌≡◌, inl, inr, ℕ, true, false, List, [], ◌∷◌, ◌++◌, Option, None, Some, Result, Ok, Err, refl, sym, ap, subst, ◌∙◌}, lemmas.Grind.{common_steps}}
-use Rattle.cacache_core.specs.{declared.{errors.Fault.{Fault}, integrity.digest.Hash.{Hash}}, PathNames.{Names, names_of}}
+use Rattle.std.proofs.{Common.{arith, ◌≡◌, inl, inr, ℕ, List, [], ◌∷◌, ◌++◌, Option, None, Some, Result, Ok, refl, sym, ap, subst, ◌∙◌}, lemmas.Grind.{common_steps}}
+use Rattle.cacache_core.specs.{declared.{errors.Fault.{Fault}, integrity.digest.Hash.{Hash}}, Paths.{Names, names_of}}
 use Rattle.cacache_core.specs.declared.errors.Fault.TheVariants as faults
 use Rattle.cacache_store.specs.declared.store.answer.Answer.TheVariants as answers
 use Rattle.cacache_store.specs.declared.store.step.Step.TheVariants as steps
 use Rattle.cacache_store.specs.Plain.{PlainStep, PlainAnswer}
 use Rattle.cacache_disk.specs.{declared.luck.Luck.{Luck}, Tree.{Tree}}
-use Rattle.cacache_entry.specs.Latest.{Found}
+use Rattle.cacache_entry.specs.Bucket.{Found}
 use Rattle.cacache_calls.specs.declared.command.Command.TheVariants as commands
-use Rattle.cacache_calls.specs.{declared.reply.Reply.{Reply, TheVariants.{Done}}, Licence.{May, allows, licence, AllMay}, Looking.{found_in}, Removing.{remove_bucket, remove_found}, Runs.{Runs}, State.{Site, State, doing, over, remove}, StepPaths.{bucket_path, content_path}, Table.{after, opening}}
+use Rattle.cacache_calls.specs.{declared.reply.Reply.{Reply, TheVariants.{Done}}, Licence.{May, allows, licence, AllMay}, Reading.{found_in}, Removing.{remove_bucket, remove_found}, Runs.{Runs}, State.{Site, State, doing, over, remove}, Steps.{bucket_path, content_path}, Table.{after, opening}}
 use Rattle.cacache_calls.proofs.Within.{calls_keep_to}
-use Rattle.cacache_value.specs.Acts.{Drop, DropFolder, act_at}
+use Rattle.cacache_value.specs.Acts.{Drop, act_at}
 use Rattle.cacache_history.specs.{Commits.{Deed, deeds_of_act, deeds_of, deeds, DropsAmong, RemovesFound, AreRemovals, IsRemoval}, History.{Turn}, Turns.{made_in}}
 use Rattle.cacache_history.proofs.Each.{each_join}
 

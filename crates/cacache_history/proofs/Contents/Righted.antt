@@ -1,13 +1,13 @@
 -- Each content that is bytes has the digest of its address.
-use Rattle.std.proofs.{lemmas.{Grind.{common_steps}, List.{append_cancel_left}, Option.{same_Some}}, Common.{◌≡◌, ℕ, Bool, true, false, cond, List, [], ◌++◌, Option, None, Some, Ok, refl, sym, ap, subst, ◌∙◌, append-nil, arith}}
-use Rattle.cacache_core.specs.{declared.integrity.{algorithm.Algorithm.{Algorithm}, digest.Hash.{Hash}}, Digests.{digest}, Integrity.{IsHash, hash_of, integrity_under}, PathNames.{Names, names_of, home_of, names_below}, Paths.{joined, content_names}}
+use Rattle.std.proofs.{lemmas.{Grind.{common_steps}, List.{append_cancel_left}, Option.{same_Some}}, Common.{◌≡◌, ℕ, Bool, true, cond, List, [], ◌++◌, Option, None, Some, Ok, refl, sym, ap, subst, ◌∙◌, append-nil, arith}}
+use Rattle.cacache_core.specs.{declared.integrity.{algorithm.Algorithm.{Algorithm}, digest.Hash.{Hash}}, Integrity.{digest, IsHash, hash_of, integrity_under}, Paths.{Names, names_of, home_of, names_below, joined, content_names}}
 use Rattle.cacache_core.proofs.{JoinedNames.{joined_texts_name}, PathTexts.{paths_differ}, ProperNames.{names_are_proper}}
 use Rattle.cacache_store.specs.{declared.store.plain.PlainTemp.{PlainTemp}, Plain.{PlainStep}}
 use Rattle.cacache_store.specs.declared.store.step.Step.TheVariants as steps
 use Rattle.cacache_disk.{specs.{declared.luck.Luck.{Luck}, Tree.{Tree}, Apply.{apply}}, proofs.Maps.{same_path-true}}
-use Rattle.cacache_calls.specs.{declared.command.Command.{Command}, StepPaths.{content_path}}
+use Rattle.cacache_calls.specs.{declared.command.Command.{Command}, Steps.{content_path}}
 use Rattle.cacache_calls.specs.declared.command.Command.TheVariants as commands
-use Rattle.cacache_value.specs.{Kinds.{is_path_of}, Value.{Blob, InFile, AtLink, Value, wide_value}, Acts.{Act, PutBytes, PutLink, Drop, act_of, change}, Placed.{Placed, Proper}, OpeningTrees.{IsOpening}}
+use Rattle.cacache_value.specs.{Kinds.{is_path_of}, Value.{Blob, InFile, AtLink, Value, wide_value}, Acts.{Act, PutBytes, act_of, change}, Placed.{Placed, Proper, IsOpening}}
 use Rattle.cacache_value.proofs.Traces.{steps_act}
 use Rattle.cacache_history.specs.{Setup.{Setup, call_site, home}, Values.{HasDigest, AreRight}}
 use Rattle.cacache_history.proofs.{Contents.{Carrying.{Own, own_bytes, own_link, own_of, Makes}, Digests.{digest_hash}}, StepActs.{MayAct, acts_so}}

@@ -1,16 +1,16 @@
 -- Each entry that a commit added names a content that is there, unless a step removed it.
-use Rattle.std.proofs.{Common.{arith, rules, ◌≡◌, ◌⊎◌, inl, inr, ℕ, Bool, true, false, cond, List, [], ◌∷◌, ◌++◌, Option, None, Some, Ok, refl, sym, ap, subst, ◌∙◌, append-nil, append_assoc}, lemmas.Grind.{common_steps}}
-use Rattle.cacache_core.specs.{declared.integrity.{algorithm.Algorithm.{Algorithm}, digest.Hash.{Hash}}, Digests.{digest}, Integrity.{IsHash, hash_of, integrity_under}, PathNames.{Names, names_of, names_below}, Paths.{content_names}, Texts.{integrity_text}}
+use Rattle.std.proofs.{Common.{arith, rules, ◌≡◌, ◌⊎◌, inl, inr, ℕ, Bool, true, cond, List, [], ◌∷◌, ◌++◌, Option, None, Some, Ok, refl, sym, ap, subst, ◌∙◌, append-nil, append_assoc}, lemmas.Grind.{common_steps}}
+use Rattle.cacache_core.specs.{declared.integrity.{algorithm.Algorithm.{Algorithm}, digest.Hash.{Hash}}, Integrity.{digest, IsHash, hash_of, integrity_under}, Paths.{Names, names_of, names_below, content_names}, Texts.{integrity_text}}
 use Rattle.cacache_store.specs.declared.store.step.Step.TheVariants as steps
 use Rattle.cacache_store.specs.declared.store.answer.Answer.TheVariants as answers
 use Rattle.cacache_store.specs.Plain.{PlainStep, PlainAnswer}
 use Rattle.cacache_disk.{specs.{declared.luck.Luck.{Luck}, Tree.{Tree}}, proofs.Roots.{same_self}}
 use Rattle.cacache_entry.specs.Entry.{Entry}
-use Rattle.cacache_calls.specs.{declared.{command.{Command.{Command}, Link.{Link}}, reply.Reply.{Reply, TheVariants.{Stored}}, carried.Commit.{Commit}}, StepPaths.{content_path}, Storing.{insertion_of, put_commit}, Inserting.{given_or}, Linking.{link_target, commit_for}, Answers.{there_in}}
+use Rattle.cacache_calls.specs.{declared.{command.{Command.{Command}, Link.{Link}}, reply.Reply.{Reply, TheVariants.{Stored}}, carried.Commit.{Commit}}, Steps.{content_path}, Storing.{insertion_of, put_commit}, Inserting.{given_or}, Linking.{link_target, commit_for}, Answers.{there_in}}
 use Rattle.cacache_calls.specs.declared.command.Command.TheVariants as commands
-use Rattle.cacache_value.specs.{Kinds.{is_path_of}, Value.{Blob, InFile, AtLink, Value, value_of_tree}, Shows.{blob_there}, Acts.{Act, PutBytes, PutLink, AddEntries, Drop, act_of, change}, Traces.{acts}}
-use Rattle.cacache_history.specs.{declared.record.Record.{Record, TheVariants.{Began, Moved, Stopped}}, Setup.{call_site, home}, History.{History, Turn, Call, Made, IsLegal, Reaches}, Turns.{EachTurn}, Values.{steps_of, value_at, opening_value, KeepContent, IsThere, HasDigest}, ShownTurns.{content_at, unless_failed}, Commits.{Deed, does, finds, deeds_of_act, finds_in, deeds_of, deeds, PutsContent, IsAdded, InsertionAdds, AddsAfter, CommitsAs, LinksAs, IsCase}, AddedEntries.{NamesOwn, IsAmong, Added, IsContentOf, NamesContent, EntriesNameContents, address_of_put, PutsLeaveContents}, TurnPlaces.{TurnAt}}
-use Rattle.cacache_history.proofs.{Contents.{Carrying.{Own, own_bytes, own_link, put_own}, Digests.{digest_hash}, Commits.{commits_are_cases}}, Histories.{Holding.{TurnHolds, TurnsHold}, Values.{value_follows_acts, contents_stay, contents_are_right}, Runs.{reached}, ShownTurns.{content_below, there_at}, Turned.{reached_turns}}}
+use Rattle.cacache_value.specs.{Kinds.{is_path_of}, Value.{Blob, InFile, Value, value_of_tree}, Shows.{blob_there}, Acts.{Act, AddEntries, act_of, change, acts}}
+use Rattle.cacache_history.specs.{declared.record.Record.{Record, TheVariants.{Began, Moved, Stopped}}, Setup.{call_site, home}, History.{History, Turn, Call, Made, IsLegal, Reaches}, Turns.{EachTurn, content_at, unless_failed, TurnAt}, Values.{steps_of, value_at, opening_value, KeepContent, IsThere, HasDigest}, Commits.{Deed, does, finds, deeds_of_act, finds_in, deeds_of, deeds, PutsContent, IsAdded, InsertionAdds, AddsAfter, CommitsAs, LinksAs, IsCase}, AddedEntries.{NamesOwn, IsAmong, Added, IsContentOf, NamesContent, EntriesNameContents, address_of_put, PutsLeaveContents}}
+use Rattle.cacache_history.proofs.{Contents.{Carrying.{Own, own_bytes, own_link, put_own}, Digests.{digest_hash}, Commits.{commits_are_cases}}, Histories.{Holding.{TurnHolds, TurnsHold}, Values.{value_follows_acts, contents_stay, contents_are_right}, Places.{reached, reached_turns}, ShownTurns.{content_below, there_at}}}
 
 -- ---- deeds
 

@@ -1,19 +1,18 @@
 -- What a lookup finds goes by the last entry that was written, and answers hold at their places.
-use Rattle.std.proofs.{lemmas.{Grind.{common_steps, fold-append}, List.Elements.{All-nil, All-head, All-tail, All-push, All-same, All-weaker}, Slice.Eq.{bytes_eq-Decides}}, Common.{rules, ◌≡◌, ◌⊎◌, inl, inr, ◌<◌, ◌≤◌, ◌+◌, ◌-◌, ℕ, zero, suc, Bool, true, false, cond, List, [], ◌∷◌, ◌++◌, Option, None, Some, take, drop, fold, bytes_eq, refl, sym, ap, subst, ◌∙◌, append-nil, take-append-drop, arith}}
+use Rattle.std.proofs.{lemmas.{Grind.{common_steps}, List.Elements.{All-nil, All-head, All-tail, All-push, All-same, All-weaker}}, Common.{rules, ◌≡◌, ◌⊎◌, inl, inr, ◌<◌, ◌≤◌, ◌+◌, ◌-◌, ℕ, zero, suc, Bool, true, false, cond, List, [], ◌∷◌, ◌++◌, Option, None, Some, take, drop, fold, refl, sym, ap, subst, ◌∙◌, append-nil, take-append-drop, arith}}
 use Rattle.std.specs.Prelude.{All, slice_get, unwrap_or}
 use Rattle.sha1.specs.Sha1.{sha1}
-use Rattle.cacache_core.specs.{PathNames.{Names}, Paths.{bucket_names_of}}
+use Rattle.cacache_core.specs.Paths.{Names, bucket_names_of}
 use Rattle.cacache_disk.specs.{declared.luck.Luck.{Luck}, Tree.{Tree}}
-use Rattle.cacache_entry.specs.{Entry.{Entry}, Latest.{Found, answer_of, answer_to, after_entry, latest}}
+use Rattle.cacache_entry.specs.{Entry.{Entry}, Bucket.{Found, answer_to, after_entry, latest}}
 use Rattle.cacache_calls.specs.{declared.{command.Command.{Command}, reply.Reply.{Reply}}, State.{Site}}
-use Rattle.cacache_calls.specs.declared.command.Command.TheVariants as commands
-use Rattle.cacache_value.specs.{Acts.{Act, AddEntries, Drop, act_of, change, list_of}, Kinds.{is_path_of}, Traces.{acts}}
+use Rattle.cacache_value.specs.{Acts.{Act, AddEntries, Drop, act_of, change, list_of, acts}, Kinds.{is_path_of}}
 use Rattle.cacache_history.specs.{declared.record.Record.{Record, TheVariants.{Began, Moved, Stopped}}, AddedEntries.{IsAmong}, Commits.{Deed, does, finds_in, deeds_of_act, deeds_of, deeds}, History.{History, Call, Turn, Made, IsLegal, turn_of, call_after}, Lookups.{lookup_at, WritesEntry, LeavesBucket, SparesKey, WrittenIn, WasWritten, EntriesAreWritten, FoundWasWritten, LookupsFollowWrites, LookupsStay}, Places.{now_before, MoveAt, MoveOfCall, MovesAre}, Setup.{call_site, home}, Values.{steps_of, bucket_at, opening_value, acted}}
 use Rattle.cacache_history.proofs.{Entries.{AddedEntries.{acts_last}, Writes.{adds_own, drops_others}}, Histories.{Places.{split_at, at_place, moves_are_of_calls}, Values.{value_follows_acts}}, Each.{any_left, any_right}}
 
 -- ---- deeds of a last move
 
-last_among : (act : Act) (turns : List Turn) (turn : Turn) → IsAmong (does act) (deeds_of_act (act_of turn.move.step turn.move.luck turn.move.answer)) → IsAmong (does act) (deeds (turns ++ turn ∷ []))
+pub last_among : (act : Act) (turns : List Turn) (turn : Turn) → IsAmong (does act) (deeds_of_act (act_of turn.move.step turn.move.luck turn.move.answer)) → IsAmong (does act) (deeds (turns ++ turn ∷ []))
 last_among act [] turn among = any_left (λ (d : Deed). does act ≡ d) (deeds_of turn.move) [] (any_left (λ (d : Deed). does act ≡ d) _ (finds_in turn.move.step turn.move.answer) among)
 last_among act (t ∷ turns) turn among = any_right (λ (d : Deed). does act ≡ d) (deeds_of t.move) (deeds (turns ++ turn ∷ [])) (last_among act turns turn among)
 

@@ -1,20 +1,17 @@
 -- The entries of a bucket are those of its own keys.
-use Rattle.std.proofs.{Common.{arith, rules, ◌≡◌, ℕ, Bool, true, false, cond, nat_le, List, ◌∷◌, ◌++◌, Option, None, Some, option_map, fold, filter_map, map, Ok, Err, bytes_eq, length, take, refl, sym, ap, subst, ◌∙◌}, lemmas.{Grind.{common_steps}, Bool.{leb-true, leb-false}, List.{append_cancel_left, Elements.{All-nil, All-cons, All-head, All-tail, All-append}}, Slice.Eq.{bytes_eq-Decides}}}
+use Rattle.std.proofs.{Common.{arith, rules, ◌≡◌, ℕ, Bool, true, false, cond, nat_le, List, ◌∷◌, ◌++◌, Option, None, Some, option_map, fold, filter_map, map, Ok, Err, bytes_eq, length, take, refl, sym, ap, subst, ◌∙◌}, lemmas.{Grind.{common_steps}, List.{append_cancel_left, Elements.{All-nil, All-cons, All-head, All-tail}}, Slice.Eq.{bytes_eq-Decides}}}
 use Rattle.std.specs.{Prelude.{All, IfSome, unwrap_or, []}, List.{cons_option, list_any}}
 use Rattle.sha1.specs.Sha1.{sha1}
-use Rattle.cacache_core.specs.{declared.{errors.Fault.{Fault}, integrity.digest.Hash.{Hash}}, PathNames.{Names, names_of, names_below}, Paths.{joined, bucket_names, bucket_names_of}}
+use Rattle.cacache_core.specs.{declared.integrity.digest.Hash.{Hash}, Paths.{Names, names_of, names_below, joined, bucket_names, bucket_names_of}}
 use Rattle.cacache_core.proofs.{PathLemmas.{keys_have_digests}, PathTexts.{paths_differ}}
-use Rattle.cacache_core.specs.declared.errors.Fault.TheVariants as faults
 use Rattle.cacache_store.specs.declared.store.step.Step.TheVariants as steps
-use Rattle.cacache_store.specs.declared.store.answer.Answer.TheVariants as answers
 use Rattle.cacache_store.specs.Plain.{PlainStep, PlainAnswer}
 use Rattle.cacache_disk.{specs.{declared.luck.Luck.{Luck}, Tree.{Tree}, Apply.{apply}}, proofs.Maps.{same_path-true}}
-use Rattle.cacache_entry.specs.{Entry.{Entry, line_of, closed_line}, Bucket.{entries_of}, FittingEntries.{IsEntry, IsWritable}, Latest.{Found, found_of, answer_of_integrity, answer_of, after_entry, latest}}
-use Rattle.cacache_calls.specs.{declared.answers.Refusal.{Refusal}, State.{Item}, Walking.{once, items_of, failed}}
-use Rattle.cacache_calls.specs.declared.answers.Refusal.TheVariants as refusals
-use Rattle.cacache_value.specs.{Kinds.{is_path_of}, Value.{Value, wide_value}, Acts.{Act, AddEntries, Drop, act_of, change, list_of}, Placed.{Placed, Proper}, OpeningTrees.{IsOpening}}
-use Rattle.cacache_value.proofs.{AppendedLines.{whole_closed, torn_closed}, Traces.{steps_act}}
-use Rattle.cacache_history.specs.{Setup.{Setup}, History.{Turn}, ShownTurns.{entries_at, shown_result, by_entries}, Buckets.{HoldOwn}, ListingTurns.{IsFound}}
+use Rattle.cacache_entry.specs.{Entry.{Entry, line_of, closed_line}, Bucket.{entries_of, Found, found_of, answer_of_integrity, answer_of, after_entry, latest}, FittingEntries.{IsEntry, IsWritable}}
+use Rattle.cacache_calls.specs.{declared.answers.Refusal.{Refusal}, State.{Item}, Walking.{once, items_of}}
+use Rattle.cacache_value.specs.{Kinds.{is_path_of}, Value.{Value, wide_value}, Acts.{Act, AddEntries, Drop, act_of, change, list_of}, Placed.{Placed, Proper, IsOpening}}
+use Rattle.cacache_value.proofs.{MadeFolders.{whole_closed, torn_closed}, Traces.{steps_act}}
+use Rattle.cacache_history.specs.{Setup.{Setup}, History.{Turn}, Turns.{entries_at, shown_result, by_entries}, AddedEntries.{HoldOwn}, ListingTurns.{IsFound}}
 use Rattle.cacache_history.proofs.StepActs.{MayAct, acts_so}
 
 -- an entry of this bucket

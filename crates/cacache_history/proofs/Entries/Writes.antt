@@ -1,15 +1,15 @@
 -- What a move adds to a bucket is what its call's command writes; and which buckets it removes.
 use Rattle.std.proofs.{lemmas.{Grind.{common_steps}, List.{append_cancel_left, Elements.{All-head}}}, Common.{◌≡◌, ◌⊎◌, inl, inr, ℕ, true, false, List, [], ◌∷◌, ◌++◌, Option, None, Some, Ok, refl, sym, ap, subst, ◌∙◌, arith}}
 use Rattle.sha1.specs.Sha1.{sha1}
-use Rattle.cacache_core.specs.{declared.integrity.digest.Hash.{Hash}, Integrity.{IsHash, IsIntegrity}, PathNames.{Names, names_of, names_below}, Paths.{joined, content_names, bucket_names_of}}
-use Rattle.cacache_core.proofs.{PathLemmas.{keys_have_digests}, PathTexts.{paths_differ}}
-use Rattle.cacache_disk.proofs.{Maps.{same_path-true}, Roots.{not_true}}
-use Rattle.cacache_entry.specs.{Entry.{Entry}, Latest.{Found}}
-use Rattle.cacache_calls.specs.{declared.{carried.Commit.{Commit}, command.{Command.{Command}, Link.{Link}}, reply.Reply.{Reply}}, Inserting.{insertion, deletion}, Linking.{commit_for, link_target}, Replies.{lookup}, State.{Site, Insertion}, StepPaths.{content_path, bucket_path}, Storing.{insertion_of, put_commit}}
+use Rattle.cacache_core.specs.{declared.integrity.digest.Hash.{Hash}, Integrity.{IsHash, IsIntegrity}, Paths.{Names, names_of, names_below, joined, content_names, bucket_names_of}}
+use Rattle.cacache_core.proofs.{PathLemmas.{keys_have_digests}, PathTexts.{paths_differ}, ProperNames.{not_true}}
+use Rattle.cacache_disk.proofs.Maps.{same_path-true}
+use Rattle.cacache_entry.specs.{Entry.{Entry}, Bucket.{Found}}
+use Rattle.cacache_calls.specs.{declared.{carried.Commit.{Commit}, command.{Command.{Command}, Link.{Link}}, reply.Reply.{Reply}}, Inserting.{insertion, deletion}, Linking.{commit_for, link_target}, Replies.{lookup}, State.{Site, Insertion}, Steps.{content_path, bucket_path}, Storing.{insertion_of, put_commit}}
 use Rattle.cacache_calls.specs.declared.command.Command.TheVariants as commands
 use Rattle.cacache_value.specs.{Acts.{Act, PutBytes, PutLink, AddEntries, Drop, act_of}, Kinds.{is_path_of}}
-use Rattle.cacache_history.specs.{AddedEntries.{IsAmong}, Commits.{Deed, does, finds, finds_in, deeds_of_act, deeds_of, deeds, PutsContent, IsAdded, InsertionAdds, AddsAfter, CommitsAs, LinksAs, DropsAmong, FoundFirst, IsRemoval, AreRemovals, IsCase}, History.{History, Call, Turn, NamesIntegrity, IsLegal, Reaches}, Lookups.{WritesEntry, LeavesBucket}, ReadingCalls.{IsReading, TurnDoesNothing}, Setup.{Setup, call_site, home}, ShownTurns.{entries_at, bucket_read}, Turns.{EachTurn}}
-use Rattle.cacache_history.proofs.{Entries.AddedEntries.{not_found, either}, Contents.Commits.{commits_are_cases}, Histories.{Holding.{TurnsHold, CallHolds}, ReadingCalls.{readers_do_nothing}, Runs.{reached}, ShownTurns.{FoundHas, bucket_at_turn, bucket_below, bucket_has, content_below}}}
+use Rattle.cacache_history.specs.{AddedEntries.{IsAmong}, Commits.{Deed, does, finds_in, deeds_of_act, deeds_of, deeds, InsertionAdds, AddsAfter, CommitsAs, LinksAs, DropsAmong, FoundFirst, IsRemoval, AreRemovals, IsCase}, History.{History, Call, Turn, NamesIntegrity, IsLegal, Reaches}, Lookups.{WritesEntry, LeavesBucket}, ReadingCalls.{IsReading, TurnDoesNothing}, Setup.{Setup, call_site, home}, Turns.{entries_at, bucket_read, EachTurn}}
+use Rattle.cacache_history.proofs.{Entries.AddedEntries.{not_found, either}, Contents.Commits.{commits_are_cases}, Histories.{Holding.{TurnsHold, CallHolds}, ReadingCalls.{readers_do_nothing}, Places.{reached}, ShownTurns.{FoundHas, bucket_at_turn, bucket_below, bucket_has, content_below}}}
 
 -- ---- deeds among others
 

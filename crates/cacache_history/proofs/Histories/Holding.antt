@@ -1,12 +1,12 @@
 -- What holds at each place of a legal history.
-use Rattle.std.proofs.{Common.{arith, rules, ◌≡◌, ◌==◌, ℕ, Bool, true, false, cond, List, [], ◌∷◌, ◌++◌, Option, None, Some, option_map, refl, sym, ap, subst}, lemmas.Grind.{common_steps}}
-use Rattle.cacache_store.specs.Fits.{Fits}
-use Rattle.cacache_disk.{specs.{declared.luck.Luck.{Luck}, Tree.{Tree}, Apply.{apply}, Rooted.{Rooted}}, proofs.KeptFolders.{steps_keep_rooted}}
+use Rattle.std.proofs.{Common.{arith, rules, ◌≡◌, ◌==◌, ℕ, Bool, cond, List, [], ◌∷◌, ◌++◌, Option, None, Some, option_map, refl, sym, ap, subst}, lemmas.Grind.{common_steps}}
+use Rattle.cacache_store.specs.Plain.{Fits}
+use Rattle.cacache_disk.{specs.{declared.luck.Luck.{Luck}, Tree.{Tree, Rooted}, Apply.{apply}}, proofs.KeptFolders.{steps_keep_rooted}}
 use Rattle.cacache_calls.specs.{declared.{command.Command.{Command}, reply.Reply.{Reply}}, Table.{after, opening}, Runs.{Goes}, Sound.{Sound, MayBegin}}
 use Rattle.cacache_calls.proofs.{Going.{goes_on}, Sound.{begins_sound, stays_sound}}
-use Rattle.cacache_value.{specs.{Placed.{Placed, Proper}, OpeningTrees.{LieApart, IsOpening}}, proofs.{OpeningTrees.{files_open}, Traces.{steps_keep_placed}}}
+use Rattle.cacache_value.{specs.Placed.{Placed, Proper, LieApart, IsOpening}, proofs.{OpeningTrees.{files_open}, Traces.{steps_keep_placed}}}
 use Rattle.cacache_history.specs.{declared.record.Record.{Record, TheVariants.{Began, Moved, Stopped}}, Setup.{Setup, call_site, home, may_export, is_outside}, History.{Turn, Call, Now, History, Made, initial, new_call, turn_of, call_after, unless_over, moved_tree, now_after, replayed, now_at, NamesIntegrity, MayMove, MayCome, Legal, IsLegal}, Turns.{made_in, EachTurn}}
-use Rattle.cacache_history.proofs.{Contents.{Carrying.{own_of, Carries, Makes, opening_carries, carries_makes, carries_on}, Righted.{TreeRight, stays_right, opening_right}}, Proper.{sound_proper}, Entries.Formed.{TreeFormed, step_formed, opening_formed}, Each.{each_join}}
+use Rattle.cacache_history.proofs.{Contents.{Carrying.{own_of, Carries, Makes, opening_carries, carries_makes, carries_on}, Righted.{TreeRight, stays_right, opening_right}}, StepActs.{sound_proper}, Entries.Spelled.{TreeFormed, step_formed, opening_formed}, Each.{each_join}}
 
 -- the tree that a turn found was one of the cache's, and the turn's answer is the disk's there
 pub record TurnHolds (s : Setup) (turn : Turn) : Type 0 where

@@ -1,19 +1,18 @@
 -- What may come in a legal history, case by case, and one history.
-use Rattle.std.proofs.{lemmas.Grind.{common_steps}, Common.{rules, ◌≡◌, ◌⊎◌, inl, inr, ℕ, List, [], ◌∷◌, ◌++◌, Option, None, Some, option_map, Result, Ok, Err, refl, sym, ap, subst, ◌∙◌, codes, arith}}
+use Rattle.std.proofs.{lemmas.Grind.{common_steps}, Common.{rules, ◌≡◌, ◌⊎◌, inl, inr, ℕ, List, [], ◌∷◌, ◌++◌, Option, None, Some, Result, Ok, refl, sym, ap, subst, ◌∙◌, codes, arith}}
 use Rattle.sha1.specs.Sha1.{sha1}
 use Rattle.cacache_core.specs.declared.errors.{Fault.{Fault}, Error.TheVariants.{OutOfMemory}}
 use Rattle.cacache_core.specs.declared.errors.Fault.TheVariants as faults
 use Rattle.cacache_store.specs.declared.store.step.Step.TheVariants as steps
 use Rattle.cacache_store.specs.declared.store.answer.Answer.TheVariants as answers
-use Rattle.cacache_store.specs.{Fits.{Fits}, Plain.{PlainStep, PlainAnswer}}
+use Rattle.cacache_store.specs.Plain.{Fits, PlainStep, PlainAnswer}
 use Rattle.cacache_disk.specs.{declared.luck.Luck.{Luck}, Tree.{Tree, bare}, LedTo.{file_at}, Apply.{unless}}
-use Rattle.cacache_entry.specs.{Entry.{Entry}, Latest.{Found}}
-use Rattle.cacache_calls.specs.{declared.{answers.Refusal.{Refusal}, reply.Reply.{Reply, TheVariants.{LookedUp, Refused}}, carried.Lookup.{Lookup}}, Answers.{bytes_in}, Common.{go_on}, Looking.{found_in, after_bucket, no_bucket}, StepPaths.{bucket_path}, Replies.{find_reply, bucket_shown, entries_shown}, Runs.{plain_reply}, State.{State, over}, Table.{wants, after}}
-use Rattle.cacache_calls.specs.declared.answers.Refusal.TheVariants as refusals
+use Rattle.cacache_entry.specs.{Entry.{Entry}, Bucket.{Found}}
+use Rattle.cacache_calls.specs.{declared.{answers.Refusal.{Refusal}, reply.Reply.{Reply, TheVariants.{LookedUp, Refused}}, carried.Lookup.{Lookup}}, Answers.{bytes_in}, Common.{go_on}, Reading.{found_in, after_bucket, no_bucket}, Steps.{bucket_path}, Replies.{find_reply, bucket_shown, entries_shown}, Runs.{plain_reply}, State.{State, over}, Table.{wants, after}}
 use Rattle.cacache_calls.specs.declared.command.Command.TheVariants as commands
 use Rattle.cacache_calls.specs.declared.carried.Aim.TheVariants as aims
 use Rattle.cacache_value.{specs.{Acts.{list_of}, Value.{Value}}, proofs.Shows.{apply_answer}}
-use Rattle.cacache_history.specs.{declared.record.Record.{Record, TheVariants.{Began, Moved, Stopped}}, Setup.{Setup}, History.{History, Turn, Call, Made, new_call, turn_of, call_after, now_at, Ends, MayMove, MayCome, IsLegal, Reaches}, ShownTurns.{entries_at, shown_result, bucket_read}, TurnReplies.{FindsHeld, ReadsValue}, LegalCases.{Comes, call_at, StepCases, BusyCases, IdleCases, BeginCases, CasesHold, lookup_made, lookup_alone, LookupCases}}
+use Rattle.cacache_history.specs.{declared.record.Record.{Record, TheVariants.{Began, Moved, Stopped}}, Setup.{Setup}, History.{History, Turn, Call, Made, new_call, turn_of, call_after, now_at, Ends, MayMove, MayCome, IsLegal, Reaches}, Turns.{entries_at, shown_result, bucket_read}, TurnReplies.{FindsHeld, ReadsValue}, LegalCases.{Comes, call_at, StepCases, BusyCases, IdleCases, BeginCases, CasesHold, lookup_made, lookup_alone, LookupCases}}
 use Rattle.cacache_history.proofs.Histories.{Holding.{first_opens, legal_after}, TurnReplies.{replies_read_value}}
 
 may_come : (h : History) → IsLegal h → (before : List Record) (r : Record) → Comes h before r → MayCome h.setup (now_at h before) r

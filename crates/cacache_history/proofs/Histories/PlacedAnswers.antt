@@ -2,18 +2,16 @@
 use Rattle.std.proofs.{lemmas.{Grind.{common_steps, fold-append}, Slice.Eq.{bytes_eq-Decides}}, Common.{rules, ◌≡◌, ◌⊎◌, inl, inr, ◌≤◌, ℕ, suc, true, cond, List, [], ◌∷◌, ◌++◌, Option, None, Some, Result, Ok, Err, take, drop, bytes_eq, refl, sym, ap, subst, ◌∙◌, arith}}
 use Rattle.std.specs.Prelude.{slice_get, unwrap_or}
 use Rattle.sha1.specs.Sha1.{sha1}
-use Rattle.cacache_core.specs.declared.errors.Fault.TheVariants as faults
-use Rattle.cacache_core.specs.{declared.integrity.digest.Hash.{Hash}, Integrity.{Meets, integrity_under}, PathNames.{Names, names_of, names_below}, Paths.{bucket_names_of}, Texts.{integrity_text, read_integrity}}
+use Rattle.cacache_core.specs.{declared.integrity.digest.Hash.{Hash}, Integrity.{Meets, integrity_under}, Paths.{Names, names_of, names_below, bucket_names_of}, Texts.{integrity_text, read_integrity}}
 use Rattle.cacache_core.proofs.Printed.{printed}
 use Rattle.cacache_disk.proofs.Roots.{same_self}
-use Rattle.cacache_entry.specs.{Entry.{Entry}, Latest.{Found, found_of, answer_to, after_entry, latest}}
+use Rattle.cacache_entry.specs.{Entry.{Entry}, Bucket.{Found, found_of, answer_to, after_entry, latest}}
 use Rattle.cacache_store.specs.declared.store.answer.Answer.TheVariants as answers
 use Rattle.cacache_store.specs.Plain.{PlainAnswer}
-use Rattle.cacache_calls.specs.{declared.{answers.Refusal.{Refusal}, carried.Commit.{Commit}, command.{Command.{Command}, Put.{Put}}, reply.Reply.{Reply, TheVariants.{Stored, Read, LookedUp}}}, Inserting.{given_or}, Replies.{find_reply, lookup}, State.{Site}, StepPaths.{bucket_path}, Storing.{insertion_of, put_commit}}
-use Rattle.cacache_calls.specs.declared.answers.Refusal.TheVariants as refusals
+use Rattle.cacache_calls.specs.{declared.{answers.Refusal.{Refusal}, carried.Commit.{Commit}, command.{Command.{Command}, Put.{Put}}, reply.Reply.{Reply, TheVariants.{Stored, Read, LookedUp}}}, Inserting.{given_or}, Replies.{find_reply, lookup}, State.{Site}, Steps.{bucket_path}, Storing.{insertion_of, put_commit}}
 use Rattle.cacache_calls.specs.declared.command.Command.TheVariants as commands
-use Rattle.cacache_value.specs.{Acts.{Act, PutBytes, AddEntries, act_of, list_of}, Kinds.{is_path_of}, Value.{Value, value_of_tree}}
-use Rattle.cacache_history.specs.{declared.record.Record.TheVariants.{Moved}, AddedEntries.{IsAmong}, Commits.{Deed, does, finds, finds_in, deeds_of_act, deeds_of, deeds, IsAdded, AddsAfter, CommitsAs, IsCase}, History.{History, Call, Turn, IsLegal, Reaches}, Lookups.{lookup_at, IsFoundIn, WritesEntry, LeavesBucket, SparesKey, found_of_put, FoundOfPuts, IsOneOfPuts, PlaceLaws}, Places.{TurnIn, CallIn, MovesAre}, ReadingCalls.{MeetsLookup, IsVerified}, Setup.{Setup, call_site, home}, ShownTurns.{shown_result, bucket_read, entries_at}, TurnReplies.{FindsHeld, ReadsValue}, Turns.{EachTurn}, Values.{acted, bucket_at}}
+use Rattle.cacache_value.specs.{Acts.{Act, PutBytes, AddEntries, act_of, list_of}, Kinds.{is_path_of}, Value.{Value}}
+use Rattle.cacache_history.specs.{declared.record.Record.TheVariants.{Moved}, AddedEntries.{IsAmong}, Commits.{Deed, does, finds, finds_in, deeds_of_act, deeds_of, deeds, CommitsAs, IsCase}, History.{History, Call, Turn, IsLegal, Reaches}, Lookups.{lookup_at, IsFoundIn, WritesEntry, LeavesBucket, SparesKey, found_of_put, FoundOfPuts, IsOneOfPuts, PlaceLaws}, Places.{TurnIn, CallIn, MovesAre}, ReadingCalls.{MeetsLookup, IsVerified}, Setup.{Setup, call_site, home}, Turns.{shown_result, bucket_read, entries_at, EachTurn}, TurnReplies.{FindsHeld, ReadsValue}, Values.{acted, bucket_at}}
 use Rattle.cacache_history.proofs.{Entries.{AddedEntries.{act_is, not_found, either}, Lookups.{becomes, entries_are_written, found_was_written, lookups_follow_writes, answers_own, spared, spares_leaves, lookups_stay}}, Contents.{Commits.{commits_are_cases}, Digests.{own_integrity}}, Histories.{Places.{split_at, moves_are_of_calls, turns_are_own}, ReadingCalls.{reads_are_verified}, ShownTurns.{bucket_below}, TurnReplies.{replies_read_value}, Values.{value_follows_acts}}}
 
 -- ---- calls between places

@@ -1,8 +1,12 @@
--- Places of a history: each move is of a call, and the turns of a call that began after a place are moves after it.
-use Rattle.std.proofs.Common.{rules, ◌≡◌, ◌⊎◌, inl, inr, ◌≤◌, ◌+◌, ◌-◌, ◌==◌, ℕ, zero, suc, Bool, true, false, cond, eqb-true, List, [], ◌∷◌, ◌++◌, Option, None, Some, option_map, take, drop, refl, sym, ap, subst, ◌∙◌, arith}
+-- Places of a history: each move is of a call, each turn is a move, and the turns of a call are a run of it.
+use Rattle.std.proofs.{Common.{rules, ◌≡◌, ◌⊎◌, inl, inr, ◌≤◌, ◌+◌, ◌-◌, ◌==◌, ℕ, zero, suc, Bool, true, false, cond, eqb-true, List, [], ◌∷◌, ◌++◌, Option, None, Some, option_map, take, drop, refl, sym, ap, subst, ◌∙◌, arith, append_assoc, append-nil}, lemmas.Grind.{common_steps}}
 use Rattle.std.specs.Prelude.{slice_get}
-use Rattle.cacache_history.specs.{declared.record.Record.{Record, TheVariants.{Began, Moved, Stopped}}, History.{History, Call, Turn, Made, new_call, turn_of, call_after, unless_over, moved_call, now_after, now_at, replayed, initial, IsLegal}, Turns.{EachTurn}, Places.{now_before, MoveAt, TurnIn, TurnsAreOwn, MovesAreOfCalls}}
-use Rattle.cacache_history.proofs.{Histories.Holding.{set_at, ended_at, replay_more, legal_after}, Each.{each_join, each_weaker}}
+use Rattle.cacache_history.specs.{declared.record.Record.{Record, TheVariants.{Began, Moved, Stopped}}, History.{History, Call, Turn, Made, turn_of, call_after, unless_over, moved_call, now_after, now_at, replayed, initial, IsLegal, Reaches, Now, Ends, MayMove}, Turns.{EachTurn, TurnAt, TurnsAreMoves, made_in, CallsAreRuns}, Places.{now_before, MoveAt, TurnIn, TurnsAreOwn, MovesAreOfCalls}, Setup.{call_site}}
+use Rattle.cacache_history.proofs.{Histories.Holding.{set_at, ended_at, replay_more, legal_after, CallHolds, of_caller, moved_holds, held_at}, Each.{each_join, each_weaker}}
+use Rattle.cacache_disk.specs.declared.luck.Luck.{Luck}
+use Rattle.cacache_calls.{specs.{declared.reply.Reply.{Reply}, Table.{opening}, Runs.{Runs, plain_reply}}, proofs.Going.{goes_over, goes_lost}}
+use Rattle.cacache_core.specs.declared.errors.Error.TheVariants.{OutOfMemory}
+use Rattle.cacache_calls.specs.declared.reply.Reply.TheVariants as replies
 
 -- ---- lists of records
 
@@ -112,3 +116,79 @@ turns_are_own h m n caller call reply c =
     let own : OwnUpTo h m caller c.place ((now_before h c.place).calls caller) = subst (λ p. OwnUpTo h m caller p ((now_before h p).calls caller)) at (own_at h m caller c.idle k) in
     later h m caller (suc c.place) n (omega (arith, c.to)) (Some call)
     (subst (OwnUpTo h m caller (suc c.place)) c.stands (moved_own h m caller c.place c.from c.move c.move.made refl ((now_before h c.place).calls caller) own))
+
+-- ---- each turn of a call is a move of the history
+
+abbrev TurnsAt : History → Option Call → Type 0
+TurnsAt h None = Unit {0}
+TurnsAt h (Some call) = EachTurn (TurnAt h) call.turns
+
+module _ (h : History) where
+  moved_stands : (past later : List Record) (caller : ℕ) (luck : Luck) (made : Option Made) (reply : Option Reply) (o : Option Call)
+      → h.records ≡ past ++ Moved caller luck made reply ∷ later → TurnsAt h o → TurnsAt h (option_map (call_after (now_at h past).tree luck made) o)
+  moved_stands past later caller luck made reply o is a = grind (arith, each_join)
+
+  next_stands : (past later : List Record) (r : Record) → h.records ≡ past ++ r ∷ later → ((k : ℕ) → TurnsAt h ((now_at h past).calls k))
+      → (k : ℕ) → TurnsAt h ((now_after h.setup (now_at h past) r).calls k)
+  next_stands past later (Began caller command) is a k = search (rules, set_at)
+  next_stands past later (Moved caller luck made reply) is a k =
+      set_at (TurnsAt h) (k == caller) (unless_over reply (moved_call (now_at h past) caller luck made)) ((now_at h past).calls k)
+      (ended_at (TurnsAt h) tt reply _ (moved_stands past later caller luck made reply ((now_at h past).calls caller) is (a caller))) (a k)
+  next_stands past later (Stopped caller) is a k = set_at (TurnsAt h) (k == caller) None ((now_at h past).calls k) tt (a k)
+
+  calls_stand : (past todo later : List Record) → h.records ≡ past ++ (todo ++ later) → ((k : ℕ) → TurnsAt h ((now_at h past).calls k))
+      → (k : ℕ) → TurnsAt h ((now_at h (past ++ todo)).calls k)
+  calls_stand past [] later is a k = subst (λ p. TurnsAt h ((now_at h p).calls k)) (sym (append-nil past)) (a k)
+  calls_stand past (r ∷ todo) later is a k =
+      subst (λ p. TurnsAt h ((now_at h p).calls k)) (append_assoc past (r ∷ []) todo)
+      (calls_stand (past ++ r ∷ []) todo later (is ∙ sym (append_assoc past (r ∷ []) (todo ++ later)))
+      (λ j. subst (λ w. TurnsAt h (w.calls j)) (sym (replay_more h.setup (initial h.setup) past (r ∷ []))) (next_stands past (todo ++ later) r is a j)) k)
+
+  -- of each call that the history reaches
+  pub reached_turns : (call : Call) (reply : Option Reply) → Reaches h call reply → EachTurn (TurnAt h) call.turns
+  reached_turns call reply r =
+      subst (TurnsAt h) r.stands
+      (moved_stands r.before r.later r.caller r.luck r.made reply ((now_at h r.before).calls r.caller) r.is
+      (calls_stand [] r.before (Moved r.caller r.luck r.made reply ∷ r.later) r.is (λ k. tt) r.caller))
+
+pub turns_are_moves : (h : History) → TurnsAreMoves h
+turns_are_moves h = reached_turns h
+
+-- ---- the turns of a call that moved are a run of it
+
+-- what holds of a call that a history reaches, and how it ends
+pub record Reached (h : History) (call : Call) (reply : Option Reply) : Type 0 where
+  pub holds : CallHolds h.setup call
+  pub ends : Ends call.state reply
+
+move_ends : (w : Now) (luck : Luck) (made : Option Made) (reply : Option Reply) (old : Call) → MayMove w.tree old.state luck made reply → Ends (call_after w.tree luck made old).state reply
+move_ends w luck made reply old may = grind (arith, common_steps)
+
+pub reached : (h : History) → IsLegal h → (call : Call) (reply : Option Reply) → Reaches h call reply → Reached h call reply
+reached h legal call reply r =
+    let w = now_at h r.before in
+    let may = (legal_after h legal r.before (Moved r.caller r.luck r.made reply ∷ r.later) r.is).0 in
+    let all = held_at h legal r.before (Moved r.caller r.luck r.made reply ∷ r.later) r.is in
+    let same : call_after (now_at h r.before).tree r.luck r.made may.0 ≡ call
+    = (let some : Some (call_after (now_at h r.before).tree r.luck r.made may.0) ≡ Some call = sym (ap (option_map (call_after (now_at h r.before).tree r.luck r.made)) may.1) ∙ r.stands in cc) in
+    subst (λ c. Reached h c reply) same (record {
+      holds = moved_holds h.setup (now_at h r.before) all r.luck r.made reply may.0 (of_caller h.setup may.0 _ may.1 (all.calls r.caller)) may.2;
+      ends = move_ends (now_at h r.before) r.luck r.made reply may.0 may.2;
+    })
+
+-- a call that is over made a run with its reply
+pub reply_run : (h : History) (call : Call) (r : Reply) → Reached h call (Some r)
+    → (r ≡ replies.Refused OutOfMemory) ⊎ Runs (opening (call_site h.setup call.number) call.command) (made_in call.turns) (plain_reply r)
+reply_run h call r x = search (rules, goes_over)
+
+pub calls_are_runs : (h : History) → IsLegal h → CallsAreRuns h
+calls_are_runs h legal call r reaches = reply_run h call r (reached h legal call (Some r) reaches)
+
+-- every call made a run that out of memory may end
+pub lost_run : (h : History) (call : Call) (reply : Option Reply) → Reached h call reply
+    → Runs (opening (call_site h.setup call.number) call.command) (made_in call.turns) (replies.Refused OutOfMemory)
+lost_run h call reply x = goes_lost (opening (call_site h.setup call.number) call.command) (made_in call.turns) call.state x.holds.goes
+
+-- without its message, a reply is out of memory only if it was
+pub memory_plain : (r : Reply) → plain_reply r ≡ replies.Refused OutOfMemory → r ≡ replies.Refused OutOfMemory
+memory_plain r e = grind (arith, common_steps)

@@ -6,13 +6,13 @@ use Rattle.cacache_core.specs.declared.integrity.digest.Hash.{Hash}
 use Rattle.cacache_store.specs.declared.store.step.Step.TheVariants as steps
 use Rattle.cacache_store.specs.Plain.{PlainStep, PlainAnswer}
 use Rattle.cacache_disk.specs.declared.luck.Luck.{Luck}
-use Rattle.cacache_calls.specs.{declared.{command.{Command.{Command}, How.{How, TheVariants.{Copy, Reflink, HardLink}}}, reply.Reply.TheVariants.{Stored, Read, Done}}, Inserting.{given_or, no_integrity}, StepPaths.{bucket_path}, Promises.{Exports}, Replies.{bucket_shown, lookup, BeginsWithBucket, MeetsFound}, Runs.{Moves, Runs, Goes}, State.{State, Site}, Table.{opening}, Licence.{May, allows, handing_out, AllMay}}
+use Rattle.cacache_calls.specs.{declared.{command.{Command.{Command}, How.{How, TheVariants.{Copy, Reflink, HardLink}}}, reply.Reply.TheVariants.{Read}}, Steps.{bucket_path}, Promises.{Exports}, Replies.{bucket_shown, lookup, BeginsWithBucket, MeetsFound}, Runs.{Moves, Runs, Goes}, State.{State, Site}, Table.{opening}, Licence.{May, allows, handing_out, AllMay}}
 use Rattle.cacache_calls.proofs.{Within.{begins_within, goes_allowed}, Promises.{calls_answer}, Replies.{gets_meet}}
 use Rattle.cacache_calls.specs.declared.command.Command.TheVariants as commands
 use Rattle.cacache_calls.specs.declared.command.Source.TheVariants as sources
 use Rattle.cacache_value.specs.Acts.{Nothing, act_of}
-use Rattle.cacache_history.specs.{Setup.{Setup, call_site}, History.{History, Turn, IsLegal}, Turns.{made_in, EachTurn}, ShownTurns.{bucket_read}, ReadingCalls.{IsReading, TurnDoesNothing, ReadersDoNothing, MeetsLookup, IsVerified, ReadsAreVerified}}
-use Rattle.cacache_history.proofs.Histories.{Holding.{TurnsHold}, ShownTurns.{bucket_below, bucket_at_turn, first_turn}, Runs.{reached, reply_run}}
+use Rattle.cacache_history.specs.{Setup.{Setup, call_site}, History.{History, Turn, IsLegal}, Turns.{made_in, EachTurn, bucket_read}, ReadingCalls.{IsReading, TurnDoesNothing, ReadersDoNothing, MeetsLookup, IsVerified, ReadsAreVerified}}
+use Rattle.cacache_history.proofs.Histories.{Holding.{TurnsHold}, ShownTurns.{bucket_below, bucket_at_turn, first_turn}, Places.{reached, reply_run}}
 
 -- ---- they do nothing
 

@@ -1,19 +1,16 @@
 -- Replies read the value at the places of their turns.
-use Rattle.std.proofs.{lemmas.{Grind.{common_steps}, List.Elements.{All-head}}, Common.{rules, ◌≡◌, ℕ, List, [], ◌∷◌, Option, Some, Result, Ok, Err, refl, sym, ap, subst, ◌∙◌, arith}}
-use Rattle.std.specs.Prelude.{All}
+use Rattle.std.{proofs.{lemmas.Grind.{common_steps}, Common.{rules, ◌≡◌, ℕ, List, [], ◌∷◌, Option, Some, Result, Ok, Err, refl, sym, ap, subst, ◌∙◌, arith}}, specs.Prelude.{All}}
 use Rattle.sha1.specs.Sha1.{sha1}
 use Rattle.cacache_core.specs.{declared.{errors.Fault.{Fault}, integrity.digest.Hash.{Hash}}, Integrity.{IsHash, IsIntegrity}, Paths.{content_names, bucket_names_of}}
 use Rattle.cacache_core.proofs.{JoinedNames.{joined_texts_name}, PathLemmas.{keys_have_digests}, ProperNames.{names_are_proper}}
-use Rattle.cacache_core.specs.declared.errors.Fault.TheVariants as faults
 use Rattle.cacache_store.specs.declared.store.step.Step.TheVariants as steps
 use Rattle.cacache_store.specs.declared.store.answer.Answer.TheVariants as answers
-use Rattle.cacache_store.specs.{Plain.{PlainStep, PlainAnswer}, Fits.{Fits}}
+use Rattle.cacache_store.specs.Plain.{PlainStep, PlainAnswer, Fits}
 use Rattle.cacache_disk.specs.Apply.{apply}
-use Rattle.cacache_entry.specs.{Entry.{Entry}, FittingEntries.{IsEntry}, Latest.{Found}}
-use Rattle.cacache_calls.specs.{declared.{answers.Refusal.{Refusal}, reply.Reply.{Reply}}, Answers.{bytes_in, there_in}, ListReplies.{given_by, by_bucket}, StepPaths.{bucket_path, content_path}, Replies.{entries_shown, OneStep, ReadsContentOnce, ReadsOn, BeginsWithBucket, bucket_shown, find_reply, content_reply, there_reply, lookup}, Runs.{Moves}, Walking.{items_in}}
-use Rattle.cacache_calls.specs.declared.answers.Refusal.TheVariants as refusals
+use Rattle.cacache_entry.specs.{Entry.{Entry}, FittingEntries.{IsEntry}, Bucket.{Found}}
+use Rattle.cacache_calls.specs.{declared.{answers.Refusal.{Refusal}, reply.Reply.{Reply}}, Answers.{bytes_in, there_in}, Replies.{given_by, by_bucket, OneStep, ReadsContentOnce, ReadsOn, BeginsWithBucket, bucket_shown, find_reply, content_reply, there_reply, lookup}, Steps.{bucket_path, content_path}, Runs.{Moves}, Walking.{items_in}}
 use Rattle.cacache_value.{specs.{Kinds.{NamesBelow}, Acts.{list_of}, Shows.{ReadsShow, ShowsBucket, ShowsContent, ShowsThere}}, proofs.Shows.{trees_show}}
-use Rattle.cacache_history.specs.{Setup.{Setup, home}, History.{Turn}, Turns.{made_in}, ShownTurns.{entries_at, unless_failed, shown_result, as_refusal, bucket_read, content_read, there_read, by_entries}, TurnReplies.{OneTurn, FindsHeld, ReadsHeld, AsksHeld, ReadsNext, GetsHeld}}
+use Rattle.cacache_history.specs.{Setup.{Setup, home}, History.{Turn}, Turns.{made_in, entries_at, unless_failed, shown_result, as_refusal, bucket_read, content_read, there_read, by_entries}, TurnReplies.{OneTurn, FindsHeld, ReadsHeld, AsksHeld, ReadsNext, GetsHeld}}
 use Rattle.cacache_history.proofs.{Entries.Spelled.{HasIntegrity, latest_has}, Histories.Holding.{TurnHolds, TurnsHold}}
 
 -- ---- what answers show

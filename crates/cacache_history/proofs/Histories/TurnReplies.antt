@@ -1,12 +1,11 @@
 -- Each reply of a call that reads is what its turns show.
-use Rattle.std.proofs.{Common.{arith, rules, ◌≡◌, ◌⊎◌, inl, inr, ℕ, List, Some, refl, sym, subst, Bool, true, false}, lemmas.Grind.{common_steps}}
+use Rattle.std.proofs.{Common.{arith, rules, ◌≡◌, ◌⊎◌, inl, inr, ℕ, List, Some, sym, subst, Bool, true}, lemmas.Grind.{common_steps}}
 use Rattle.cacache_core.specs.declared.errors.Error.TheVariants.{OutOfMemory}
-use Rattle.cacache_calls.specs.{declared.{command.Command.{Command}, reply.Reply.{Reply, TheVariants.{Refused}}}, Causes.{HasCause, own_of}, Runs.{Runs, plain_reply}, Table.{opening}, Verifying.{Verifies, UnlessRefused}}
+use Rattle.cacache_calls.specs.{declared.{command.Command.{Command}, reply.Reply.{Reply, TheVariants.{Refused}}}, Promises.{HasCause, own_of}, Runs.{Runs, plain_reply}, Table.{opening}, Verifying.{UnlessRefused}}
 use Rattle.cacache_calls.proofs.{Replies.{finds_shown, gets_shown, reads_shown, exists_shown}, EarnedErrors.{io_errors_have_causes}, Verifying.{exports_verify}}
 use Rattle.cacache_calls.specs.declared.command.Command.TheVariants as commands
-use Rattle.cacache_history.specs.{Setup.{Setup, call_site}, History.{Turn, History, NamesIntegrity, IsLegal}, Turns.{made_in, EachTurn}, TurnReplies.{ReadsValue, RepliesReadValue, RepliesHaveCauses, ExportsHeld, IfChecked}}
-use Rattle.cacache_history.proofs.{Histories.{Holding.{TurnsHold}, Runs.{reached, reply_run, memory_plain}, ShownTurns.{finds, reads, asks, gets}}, Contents.{OpenedContents.{run_asks}, Exporting.{exports}}, Entries.Bucketed.{KeyedTurn, turns_keyed}, Listings.ListingTurns.{lists}}
-use Rattle.cacache_calls.specs.declared.reply.Reply.TheVariants as replies
+use Rattle.cacache_history.specs.{Setup.{Setup, call_site}, History.{Turn, History, NamesIntegrity, IsLegal}, Turns.{made_in, EachTurn}, TurnReplies.{ReadsValue, RepliesReadValue, RepliesHaveCauses, IfChecked}}
+use Rattle.cacache_history.proofs.{Histories.{Holding.{TurnsHold}, Places.{reached, reply_run, memory_plain}, ShownTurns.{finds, reads, asks, gets}}, Contents.OpenedContents.{run_asks, exports}, Entries.Bucketed.{KeyedTurn, turns_keyed}, Listings.ListingTurns.{lists}}
 
 module _ (s : Setup) (n : ℕ) where
   if_checked : (b : Bool) (X : Type 0) → (b ≡ true → X) → IfChecked b X

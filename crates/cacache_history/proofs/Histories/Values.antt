@@ -1,9 +1,9 @@
 -- The value follows the acts of the records, and buckets only grow.
-use Rattle.std.proofs.{Common.{arith, ◌≡◌, ℕ, Bool, true, false, cond, List, [], ◌∷◌, ◌++◌, Option, None, Some, refl, sym, ap, subst, ◌∙◌}, lemmas.Grind.{common_steps}}
+use Rattle.std.proofs.{Common.{arith, ◌≡◌, ℕ, Bool, cond, List, [], ◌∷◌, ◌++◌, Option, Some, refl, sym, ap, subst, ◌∙◌}, lemmas.Grind.{common_steps}}
 use Rattle.cacache_disk.specs.declared.luck.Luck.{Luck}
 use Rattle.cacache_calls.specs.declared.reply.Reply.{Reply}
-use Rattle.cacache_core.specs.{declared.integrity.digest.Hash.{Hash}, PathNames.{Names}, Paths.{content_names}}
-use Rattle.cacache_value.specs.{Kinds.{is_path_of}, Value.{Blob, InFile, AtLink, Value, wide_value, value_of_tree}, Acts.{Act, PutBytes, PutLink, Drop, act_of, change, list_of}, Traces.{Move, IsTrace, tree_after, acts}, OpeningTrees.{LieApart}}
+use Rattle.cacache_core.specs.{declared.integrity.digest.Hash.{Hash}, Paths.{Names}}
+use Rattle.cacache_value.specs.{Value.{Blob, Value, wide_value, value_of_tree}, Acts.{Act, act_of, change, list_of, Move, IsTrace, tree_after, acts}, Placed.{LieApart}}
 use Rattle.cacache_value.proofs.Traces.{traces_act, traces_show, buckets_grow}
 use Rattle.cacache_history.specs.{declared.record.Record.{Record, TheVariants.{Began, Moved, Stopped}}, Setup.{Setup, home}, History.{Call, Now, History, Made, initial, now_after, replayed, now_at, MayMove, Legal, IsLegal}, Values.{steps_of, ValueFollowsActs, BucketsOnlyGrow, KeepsContent, KeepContent, IsThere, ContentsStay, ContentsAreRight}}
 use Rattle.cacache_history.proofs.Histories.Holding.{AllHold, of_caller, made_proper, next_holds, first_opens, first_holds, legal_front, replay_more, legal_before, legal_after, held_at}

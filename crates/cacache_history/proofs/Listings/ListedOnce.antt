@@ -1,18 +1,55 @@
--- A listing names no key twice.
-use Rattle.std.proofs.{Common.{arith, ◌≡◌, inl, inr, ℕ, List, [], ◌∷◌, ◌++◌, Option, None, Some, option_map, filter_map, map, Result, Ok, Err, refl, sym, ap, subst, ◌∙◌}, lemmas.{Grind.{common_steps}, List.Elements.{All-nil, All-cons, All-append, All-head, All-tail, All-weaker}}}
+-- What a walk answers after it gave some items, and that a listing names no key twice.
+use Rattle.std.proofs.{Common.{rules, ◌≡◌, ◌≤◌, ◌<◌, ◌+◌, ◌-◌, ℕ, Bool, true, false, cond, ◌||◌, List, [], ◌∷◌, ◌++◌, length, take, nat_lt, refl, ap, ◌∙◌, arith, append_assoc, append-nil, inr, Option, None, Some, option_map, filter_map, map, Result, Ok, Err, sym, subst}, lemmas.{Grind.{common_steps}, List.Elements.{All-nil, All-append, All-head, All-tail, All-weaker}}}
 use Rattle.std.specs.{Prelude.{All}, List.{cons_option}}
+use Rattle.cacache_calls.specs.{Answers.{names_in}, Replies.{too_deep, by_folder, In, Distinct, keys_of}, State.{Item}, Walking.{most, once, items_of}, declared.answers.Refusal.{Refusal}, Steps.{bucket_path}}
+use Rattle.cacache_calls.proofs.Keys.{each_key_once}
+use Rattle.cacache_history.specs.{History.{Turn}, ListingTurns.{count_in, names_given, TurnGives, TurnsGive, NoneTwice, OtherKey, NoKeyTwice}, Setup.{Setup}, Turns.{EachTurn, entries_at, shown_result, bucket_read, by_entries}}
+use Rattle.cacache_history.proofs.Entries.{Owned.{OfBucket, latest_key, once_all, all_keys}, Bucketed.{KeyedTurn}}
 use Rattle.sha1.specs.Sha1.{sha1}
-use Rattle.cacache_core.specs.declared.errors.Fault.TheVariants as faults
 use Rattle.cacache_core.specs.Paths.{joined, bucket_names_of}
 use Rattle.cacache_store.specs.{declared.store.answer.Name.{Name}, Plain.{PlainStep, PlainAnswer}}
+use Rattle.cacache_entry.specs.{Entry.{Entry}, Bucket.{Found, latest}}
+use Rattle.cacache_core.specs.declared.errors.Fault.TheVariants as faults
 use Rattle.cacache_store.specs.declared.store.answer.Answer.TheVariants as answers
 use Rattle.cacache_store.specs.declared.store.step.Step.TheVariants as steps
-use Rattle.cacache_entry.specs.{Entry.{Entry}, Latest.{Found, latest}}
-use Rattle.cacache_calls.specs.{declared.answers.Refusal.{Refusal}, Answers.{names_in}, ListReplies.{by_folder, In, Distinct, keys_of}, StepPaths.{bucket_path}, State.{Item}, Walking.{once, items_of, failed}}
-use Rattle.cacache_calls.proofs.Keys.{each_key_once}
 use Rattle.cacache_calls.specs.declared.answers.Refusal.TheVariants as refusals
-use Rattle.cacache_history.specs.{Setup.{Setup}, History.{Turn}, Turns.{EachTurn}, ShownTurns.{entries_at, shown_result, bucket_read, by_entries}, ListingTurns.{TurnGives, TurnsGive, NoneTwice, OtherKey, NoKeyTwice}}
-use Rattle.cacache_history.proofs.Entries.{Owned.{OfBucket, latest_key, once_all, all_keys}, Bucketed.{KeyedTurn}}
+
+-- ---- tests on numbers
+
+not_lt : (a b : ℕ) → b ≤ a → nat_lt a b ≡ false
+not_lt a b le = search rules
+
+pub is_lt : (a b : ℕ) → a < b → nat_lt a b ≡ true
+is_lt a b lt = search rules
+
+less_left : (left n m : ℕ) → n ≤ left → nat_lt (left - n) m ≡ nat_lt left (n + m)
+less_left left n m le = search (rules, is_lt, not_lt)
+
+-- ---- what a walk answers after it gave these items, if it may still take so many names
+
+abbrev pub far : List Item → ℕ → List Turn → List Item → Bool
+far front left turns items = nat_lt left (names_given turns) || nat_lt most (length (front ++ items))
+
+abbrev pub ended : List Item → ℕ → List Turn → List Item → List Item
+ended front left turns items =
+    cond (far front left turns items) (take most (front ++ items) ++ too_deep ∷ []) (front ++ items)
+
+-- a walk that took and gave nothing more
+pub ended_now : (front : List Item) (left : ℕ) → length front ≤ most → ended front left [] [] ≡ front
+ended_now front left le = rw (append-nil front, not_lt left 0 (omega arith), not_lt most (length front) le) refl
+
+pub far_more : (front new : List Item) (left n : ℕ) (turn : Turn) (turns : List Turn) (items : List Item) → n ≡ count_in (names_in turn.move.answer) → n ≤ left
+    → far (front ++ new) (left - n) turns items ≡ far front left (turn ∷ turns) (new ++ items)
+far_more front new left n turn turns items is le =
+    ap (λ l. nat_lt (left - n) (names_given turns) || nat_lt most (length l)) (append_assoc front new items)
+    ∙ ap (λ b. b || nat_lt most (length (front ++ (new ++ items)))) (less_left left n (names_given turns) le ∙ ap (λ m. nat_lt left (m + names_given turns)) is)
+
+-- a turn that gave these names and items
+pub ended_more : (front new : List Item) (left n : ℕ) (turn : Turn) (turns : List Turn) (items : List Item) → n ≡ count_in (names_in turn.move.answer) → n ≤ left
+    → ended (front ++ new) (left - n) turns items ≡ ended front left (turn ∷ turns) (new ++ items)
+ended_more front new left n turn turns items is le =
+    ap (λ l. cond (far (front ++ new) (left - n) turns items) (take most l ++ too_deep ∷ []) l) (append_assoc front new items)
+    ∙ ap (λ b. cond b (take most (front ++ (new ++ items)) ++ too_deep ∷ []) (front ++ (new ++ items))) (far_more front new left n turn turns items is le)
 
 -- ---- one bucket
 

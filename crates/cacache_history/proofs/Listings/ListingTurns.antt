@@ -2,18 +2,18 @@
 use Rattle.std.proofs.{lemmas.{Grind.{common_steps}, Bool.{leb-true, leb-false, or_right}, List.{take_all, take_at, Elements.{All-nil}}, Option.{same_Some}}, Common.{rules, ◌≡◌, ◌⊎◌, inl, inr, ◌≤◌, ◌<◌, ◌+◌, ◌-◌, ℕ, true, false, cond, ◌||◌, List, [], ◌∷◌, ◌++◌, Option, None, Some, Result, Ok, Err, length, take, drop, nat_le, nat_lt, refl, sym, ap, subst, ◌∙◌, arith, append-nil, length-append}}
 use Rattle.std.specs.Prelude.{All}
 use Rattle.sha1.specs.Sha1.{sha1}
-use Rattle.cacache_core.specs.{declared.errors.{Fault.{Fault}, Error.TheVariants.{OutOfMemory}}, PathNames.{IsProperName}, Paths.{join, joined, bucket_names, index_area}}
+use Rattle.cacache_core.specs.{declared.errors.{Fault.{Fault}, Error.TheVariants.{OutOfMemory}}, Paths.{IsProperName, join, joined, bucket_names, index_area}}
 use Rattle.cacache_core.specs.declared.errors.Fault.TheVariants as faults
 use Rattle.hex.specs.Hex.{encode_lower}
-use Rattle.cacache_store.specs.{declared.store.answer.Name.{Name}, Plain.{PlainStep, PlainAnswer}, Fits.{Fits}}
+use Rattle.cacache_store.specs.{declared.store.answer.Name.{Name}, Plain.{PlainStep, PlainAnswer, Fits}}
 use Rattle.cacache_store.specs.declared.store.answer.Answer.TheVariants as answers
 use Rattle.cacache_store.specs.declared.store.step.Step.TheVariants as steps
-use Rattle.cacache_calls.specs.{declared.{answers.Refusal.{Refusal}, reply.Reply.{Reply, TheVariants.{Listed, Done, Refused}}, visit.{Visit.{Visit, TheVariants.{Enter, ReadBucket}}, Task.{Task, TheVariants.{Make, Stumble}}}}, Answers.{bytes_in, names_in}, Common.{fails, go_on}, ListReplies.{by_bucket, by_folder, given_by, too_deep}, StepPaths.{bucket_path}, Runs.{Runs, plain_reply}, State.{State, walking, over, Item, Walk}, Table.{wants, after, opening}, Walking.{most, failed, give, miss, walk_on, tasks_of, leaving, too_many, entered, unread_bucket, listed, items_in, visit_step, after_visit}}
-use Rattle.cacache_calls.proofs.Branches.{cond_leads}
+use Rattle.cacache_calls.specs.{declared.{answers.Refusal.{Refusal}, reply.Reply.{Reply, TheVariants.{Listed, Done, Refused}}, visit.{Visit.{Visit, TheVariants.{Enter, ReadBucket}}, Task.{Task, TheVariants.{Make, Stumble}}}}, Answers.{bytes_in, names_in}, Common.{fails, go_on}, Replies.{by_bucket, by_folder, given_by, too_deep}, Steps.{bucket_path}, Runs.{Runs, plain_reply}, State.{State, walking, over, Item, Walk}, Table.{wants, after, opening}, Walking.{most, failed, give, miss, walk_on, tasks_of, leaving, too_many, entered, unread_bucket, listed, items_in, visit_step, after_visit}}
+use Rattle.cacache_calls.proofs.{Going.{cond_leads}, ListReplies.{pick}}
 use Rattle.cacache_calls.specs.declared.answers.Refusal.TheVariants as refusals
 use Rattle.cacache_calls.specs.declared.command.Command.TheVariants as commands
-use Rattle.cacache_history.specs.{Setup.{Setup, call_site}, History.{Turn, History, IsLegal, Reaches}, Turns.{made_in, EachTurn}, ShownTurns.{bucket_read, by_entries}, ListingTurns.{IsIndexFolder, IsFound, TurnGives, TurnsGive, count_in, is_past, listing_of, AnyTurn, HasBucket, TurnReadsBucket, FailsAbove, FindsBuckets, ListsHeld, ListsValue, ListingsReadValue}}
-use Rattle.cacache_history.proofs.{Histories.{Holding.{TurnHolds, TurnsHold}, ShownTurns.{bucket_below, lists_bucket}, Runs.{reached, reply_run, lost_run, memory_plain}}, Entries.{Owned.{bucket_found}, Bucketed.{KeyedTurn, turns_keyed}}, Listings.{Once.{none_twice}, ListedOnce.{no_key_twice}, ListingWalks.{Visits, Tasks, tasks_append, no_leaving, folder_tasks, CoversAny, covers_left, covers_right, folder_covers}, Ended.{is_lt, far, ended, ended_now, far_more, ended_more, pick}}}
+use Rattle.cacache_history.specs.{Setup.{Setup, call_site}, History.{Turn, History, IsLegal, Reaches}, Turns.{made_in, EachTurn, bucket_read, by_entries}, ListingTurns.{IsIndexFolder, IsFound, TurnGives, TurnsGive, count_in, is_past, listing_of, AnyTurn, HasBucket, TurnReadsBucket, FailsAbove, FindsBuckets, ListsHeld, ListsValue, ListingsReadValue}}
+use Rattle.cacache_history.proofs.{Histories.{Holding.{TurnHolds, TurnsHold}, ShownTurns.{bucket_below, lists_bucket}, Places.{reached, reply_run, lost_run, memory_plain}}, Entries.{Owned.{bucket_found}, Bucketed.{KeyedTurn, turns_keyed}}, Listings.{Once.{none_twice}, ListedOnce.{no_key_twice, is_lt, far, ended, ended_now, far_more, ended_more}, ListingWalks.{Visits, Tasks, tasks_append, no_leaving, folder_tasks, CoversAny, covers_left, covers_right, folder_covers}}}
 
 module _ (s : Setup) (r : Reply) where
   abbrev Sees : List ℕ → Turn → Type 0

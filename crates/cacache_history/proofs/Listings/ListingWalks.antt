@@ -1,20 +1,19 @@
 -- A listing reads folders of the index and buckets of keys, and answers what they give.
-use Rattle.std.proofs.{lemmas.{Grind.{common_steps}, Bool.{ltb-false}, List.{append_cancel_left, take_at, Elements.{All-nil, All-cons, All-append, All-head, All-tail, All-take}}}, Common.{rules, ◌≡◌, ◌⊎◌, inl, inr, ◌≤◌, ◌<◌, ◌+◌, ℕ, zero, suc, Bool, true, false, cond, List, [], ◌∷◌, ◌++◌, Option, None, Some, Ok, length, take, nat_lt, refl, sym, ap, subst, ◌∙◌, arith, append_assoc, length-append}}
+use Rattle.std.proofs.{lemmas.{Grind.{common_steps}, Bool.{ltb-false}, List.{append_cancel_left, take_at, Elements.{All-nil, All-cons, All-append, All-head, All-tail, All-take}}}, Common.{rules, ◌≡◌, ◌⊎◌, inl, inr, ◌≤◌, ◌<◌, ◌+◌, ℕ, zero, suc, Bool, true, false, cond, List, [], ◌∷◌, ◌++◌, Option, Some, Ok, length, take, nat_lt, refl, sym, ap, subst, ◌∙◌, arith, append_assoc, length-append}}
 use Rattle.std.specs.Prelude.{All}
 use Rattle.sha1.specs.Sha1.{sha1}
 use Rattle.cacache_core.specs.declared.errors.Fault.TheVariants as faults
-use Rattle.cacache_core.specs.{PathNames.{Names, names_of, names_below, IsProperName}, Paths.{join, joined, bucket_names, index_area}}
+use Rattle.cacache_core.specs.Paths.{Names, names_of, names_below, IsProperName, join, joined, bucket_names, index_area}
 use Rattle.cacache_core.proofs.{JoinedNames.{joined_texts_name}, PathLemmas.{keys_have_digests}, ProperNames.{names_are_proper}}
-use Rattle.cacache_store.specs.{declared.store.answer.{Kind.{Kind}, Name.{Name}}, Plain.{PlainAnswer}, Fits.{Fits, AreProperNames}}
+use Rattle.cacache_store.specs.{declared.store.answer.{Kind.{Kind}, Name.{Name}}, Plain.{PlainAnswer, Fits, AreProperNames}}
 use Rattle.cacache_store.specs.declared.store.answer.Kind.TheVariants as kinds
-use Rattle.cacache_store.specs.declared.store.answer.Answer.TheVariants as answers
 use Rattle.cacache_store.specs.declared.store.step.Step.TheVariants as steps
-use Rattle.cacache_disk.specs.{declared.node.Node.{Node, TheVariants.{Folder, File, Link}}, Tree.{Tree, look, kind_of, listing}, Rooted.{Rooted}, Apply.{apply}}
+use Rattle.cacache_disk.specs.{declared.node.Node.{Node, TheVariants.{Folder, File, Link}}, Tree.{Tree, look, kind_of, listing, Rooted}, Apply.{apply}}
 use Rattle.cacache_disk.proofs.Standing.{upper_folder}
 use Rattle.cacache_entry.specs.Entry.{Entry}
-use Rattle.cacache_calls.specs.{Answers.{names_in}, StepPaths.{bucket_path}, declared.visit.{Visit.{Visit, TheVariants.{Enter, ReadBucket}}, Task.{Task, TheVariants.{Make, Stumble}}}, Walking.{task_for_name, tasks_of, leaving}}
-use Rattle.cacache_value.{specs.{Kinds.{Bucket, kind_in_area, kind_beside, path_kind, node_below}, Value.{bucket_in}, Placed.{MayStand, Placed}}, proofs.KindsApart.{kind-below}}
-use Rattle.cacache_history.specs.{Setup.{Setup, home}, History.{Turn, History, now_at, IsLegal}, Buckets.{BucketsHaveKeys, IndexIsShallow}, ListingTurns.{IsIndexFolder, HasBucket}}
+use Rattle.cacache_calls.specs.{Answers.{names_in}, Steps.{bucket_path}, declared.visit.{Visit.{Visit, TheVariants.{Enter, ReadBucket}}, Task.{Task, TheVariants.{Make, Stumble}}}, Walking.{task_for_name, tasks_of, leaving}}
+use Rattle.cacache_value.{specs.{Kinds.{Bucket, kind_in_area, kind_beside, path_kind, node_below}, Value.{bucket_in}, Placed.{MayStand, Placed}}, proofs.PathKinds.{kind-below}}
+use Rattle.cacache_history.specs.{Setup.{Setup, home}, History.{Turn, History, now_at, IsLegal}, AddedEntries.{BucketsHaveKeys, IndexIsShallow}, ListingTurns.{IsIndexFolder, HasBucket}}
 use Rattle.cacache_history.proofs.{Histories.Holding.{TurnHolds, held_at}, Listings.ToldFolders.{Told, IsAmong, names_told, child_listed}, Entries.Bucketed.{KeyedTurn}, Each.{Each}}
 
 -- ---- what a walk has to do

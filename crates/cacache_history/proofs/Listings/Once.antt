@@ -1,19 +1,19 @@
 -- A listing reads nothing twice.
-use Rattle.std.proofs.{lemmas.{Grind.{common_steps}, List.Elements.{All-nil, All-cons, All-head, All-tail}, Option.{same_Some}}, Common.{rules, ◌≡◌, inl, inr, ◌+◌, ◌-◌, ℕ, Bool, true, false, cond, List, [], ◌∷◌, ◌++◌, Some, Result, Ok, Err, length, take, nat_le, nat_lt, refl, sym, ap, subst, ◌∙◌, arith, append-nil}}
+use Rattle.std.proofs.{lemmas.{Grind.{common_steps}, List.Elements.{All-nil, All-cons, All-head, All-tail}, Option.{same_Some}}, Common.{rules, ◌≡◌, ◌+◌, ◌-◌, ℕ, Bool, true, false, cond, List, [], ◌∷◌, ◌++◌, Some, Result, Ok, Err, length, take, nat_le, nat_lt, refl, sym, ap, subst, ◌∙◌, arith, append-nil}}
 use Rattle.std.specs.Prelude.{All}
-use Rattle.cacache_core.specs.{declared.errors.Fault.{Fault}, PathNames.{Names, names_of, names_below, IsProperName}, Paths.{join, joined, index_area}}
+use Rattle.cacache_core.specs.{declared.errors.Fault.{Fault}, Paths.{Names, names_of, names_below, IsProperName, join, joined, index_area}}
 use Rattle.cacache_core.proofs.JoinedNames.{joined_texts_name}
 use Rattle.cacache_core.specs.declared.errors.Fault.TheVariants as faults
-use Rattle.cacache_store.specs.{declared.store.answer.{Kind.{Kind}, Name.{Name}}, Plain.{PlainStep}, Fits.{Fits, AreProperNames}}
+use Rattle.cacache_store.specs.{declared.store.answer.{Kind.{Kind}, Name.{Name}}, Plain.{PlainStep, Fits, AreProperNames}}
 use Rattle.cacache_store.specs.declared.store.answer.Kind.TheVariants as kinds
 use Rattle.cacache_store.specs.declared.store.step.Step.TheVariants as steps
 use Rattle.cacache_disk.specs.Apply.{apply}
-use Rattle.cacache_calls.specs.{declared.{answers.Refusal.{Refusal}, reply.Reply.{Reply, TheVariants.{Listed, Done}}, visit.{Visit.{Visit, TheVariants.{Enter, ReadBucket}}, Task.{Task, TheVariants.{Make, Stumble}}}}, Answers.{bytes_in, names_in}, Common.{fails, go_on}, ListReplies.{too_deep}, Runs.{Runs}, State.{State, walking, over, Item, Walk}, Table.{wants, after, opening}, Walking.{most, failed, give, miss, walk_on, task_for_name, tasks_of, leaving, too_many, entered, unread_bucket, listed, items_in, visit_step, after_visit}}
-use Rattle.cacache_calls.proofs.Branches.{cond_leads}
+use Rattle.cacache_calls.specs.{declared.{answers.Refusal.{Refusal}, reply.Reply.{Reply, TheVariants.{Listed, Done}}, visit.{Visit.{Visit, TheVariants.{Enter, ReadBucket}}, Task.{Task, TheVariants.{Make, Stumble}}}}, Answers.{bytes_in, names_in}, Common.{fails, go_on}, Replies.{too_deep}, Runs.{Runs}, State.{State, walking, over, Item, Walk}, Table.{wants, after, opening}, Walking.{most, failed, give, miss, walk_on, task_for_name, tasks_of, leaving, too_many, entered, unread_bucket, listed, visit_step, after_visit}}
+use Rattle.cacache_calls.proofs.{Going.{cond_leads}, ListReplies.{pick}}
 use Rattle.cacache_calls.specs.declared.answers.Refusal.TheVariants as refusals
 use Rattle.cacache_calls.specs.declared.command.Command.TheVariants as commands
 use Rattle.cacache_history.specs.{Setup.{Setup, call_site, home}, History.{Turn}, Turns.{made_in, EachTurn}, ListingTurns.{IsIndexFolder, NoneTwice}}
-use Rattle.cacache_history.proofs.{Histories.Holding.{TurnHolds, TurnsHold}, Listings.{ToldFolders.{AreDistinct, names_told, listing_distinct}, ListingWalks.{Visits, Tasks, tasks_append, no_leaving, folder_tasks, proper_names, below_is, child_named}, Ended.{pick}}, Entries.Bucketed.{KeyedTurn}, ApartPaths.{ApartAll, AllApart, children, children_apart, BelowSome, below_child, never_below, never_deeper}, Each.{each_weaker}}
+use Rattle.cacache_history.proofs.{Histories.Holding.{TurnHolds, TurnsHold}, Listings.{ToldFolders.{AreDistinct, names_told, listing_distinct}, ListingWalks.{Visits, Tasks, tasks_append, no_leaving, folder_tasks, proper_names, below_is, child_named}}, Entries.Bucketed.{KeyedTurn}, ApartPaths.{ApartAll, AllApart, children, children_apart, BelowSome, below_child, never_below, never_deeper}, Each.{each_weaker}}
 
 -- ---- tasks and turns
 

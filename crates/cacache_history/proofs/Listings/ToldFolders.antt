@@ -1,16 +1,15 @@
 -- What a listing of a folder says of the nodes in it.
-use Rattle.std.proofs.{lemmas.{Grind.{common_steps}, Bool.{and_parts}, List.{take_all, get_or_at}}, Common.{◌≡◌, ◌⊎◌, inl, inr, ◌+◌, ◌&&◌, ℕ, Bool, true, false, cond, List, [], ◌∷◌, ◌++◌, Option, None, Some, Result, Ok, Err, length, take, refl, sym, ap, subst, ◌∙◌, arith, eqb-true, ap₂}}
-use Rattle.std.specs.{Prelude.{T, slice_index_or, filter_map}, List.{cons_option}, FinMap.Entries.{below_all}, declared.cmp.Ordering.{Ordering, TheVariants.{Less}}, Ordering.{is_lt, is_eq, ordering_reverse}, Cmp.{eq_by_cmp_equiv}}
+use Rattle.std.proofs.{lemmas.{Grind.{common_steps}, Bool.{and_parts}, List.{take_all, get_or_at}}, Common.{◌≡◌, ◌⊎◌, inl, ◌+◌, ◌&&◌, ℕ, Bool, true, false, cond, List, [], ◌∷◌, ◌++◌, Option, None, Some, Result, Ok, Err, length, take, refl, sym, ap, subst, ◌∙◌, arith, eqb-true, ap₂}}
+use Rattle.std.specs.{Prelude.{T, slice_index_or, filter_map}, List.{cons_option}, FinMap.Entries.{below_all}, declared.cmp.Ordering.{Ordering}, Ordering.{is_lt, is_eq, ordering_reverse}, Cmp.{eq_by_cmp_equiv}}
 use Rattle.std.specs.FinMap as map
-use Rattle.cacache_core.specs.{declared.errors.Fault.{Fault}, PathNames.{Names, names_of}}
+use Rattle.cacache_core.specs.{declared.errors.Fault.{Fault}, Paths.{Names, names_of}}
 use Rattle.cacache_store.specs.declared.store.answer.{Kind.{Kind}, Name.{Name}}
 use Rattle.cacache_disk.specs.{declared.{node.Node.{Node}, luck.Luck.{Luck}}, Tree.{Tree, look, names_cmp, same_path, is_child, kind_of, child_of, listing}, LedTo.{place, where_folder, folder}, Apply.{apply, unless}}
-use Rattle.cacache_disk.proofs.{Maps.{total, same_path-true}, PutNodes.{eq-true}, PathFolders.{front_next}, FoundNodes.{and_then_ok, or_fault_none, place_ok}}
+use Rattle.cacache_disk.proofs.{Maps.{total, same_path-true}, PutNodes.{eq-true}, PathTexts.{front_next}, FoundNodes.{and_then_ok, or_fault_none, place_ok}, KeptFolders.{is_child-snoc}}
 use Rattle.cacache_store.specs.declared.store.step.Step.TheVariants as steps
 use Rattle.cacache_store.specs.declared.store.answer.Answer.TheVariants as answers
 use Rattle.cacache_calls.specs.Answers.{names_in}
 use Rattle.cacache_value.proofs.Shows.{apply_answer}
-use Rattle.cacache_loss.proofs.KeptPaths.{child_of_self}
 use Rattle.cacache_history.proofs.Each.{Each, each_weaker}
 
 -- ---- the entries of a map
@@ -137,7 +136,7 @@ listed_at : (folder : Names) (name : List ℕ) (node : Node) (e : Names × Node)
 unfolding child_name
 listed_at folder name node e rest same is =
     let path : folder ++ name ∷ [] ≡ e.0 = same_path-true (folder ++ name ∷ []) e.0 same in
-    let child : is_child folder e.0 ≡ true = ap (is_child folder) (sym path) ∙ child_of_self folder name in
+    let child : is_child folder e.0 ≡ true = ap (is_child folder) (sym path) ∙ is_child-snoc folder name in
     let own : name ≡ slice_index_or e.0 (length folder) [] = sym (get_or_at folder name [] [] (length folder) refl) ∙ ap (λ (q : Names). slice_index_or q (length folder) []) path in
     subst (λ b. IsAmong (child_name folder name node) (cons_option (cond b (Some (record { name = slice_index_or e.0 (length folder) []; kind = kind_of e.1 })) None) rest)) (sym child)
     (inl (ap₂ (λ (n : List ℕ) (k : Kind). record { name = n; kind = k }) own (ap kind_of (sym is))))

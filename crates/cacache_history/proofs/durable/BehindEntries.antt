@@ -1,14 +1,14 @@
 -- What a loss leaves after an entry that a durable commit appended as a whole line.
 use Rattle.std.proofs.{Common.{◌≡◌, ◌+◌, ◌-◌, ◌≤◌, inl, inr, ℕ, Bool, true, false, List, [], ◌∷◌, ◌++◌, Some, length, take, refl, sym, ap, subst, ◌∙◌, arith, append_assoc, append-nil}, Math.Seq.{take-append-add}, lemmas.{List.{append_cancel_left}, Option.{same_Some}}}
 use Rattle.sha1.specs.Sha1.{sha1}
-use Rattle.cacache_core.specs.{PathNames.{Names}, Paths.{bucket_names_of}}
+use Rattle.cacache_core.specs.Paths.{Names, bucket_names_of}
 use Rattle.cacache_disk.specs.{declared.node.Node.TheVariants.{File}, Tree.{Tree, bytes_of, look}}
-use Rattle.cacache_entry.{specs.{Entry.{Entry, closed_line}, Bucket.{entries_of}}, proofs.Lines.{empty_holds_nothing}}
-use Rattle.cacache_value.{specs.{Kinds.{Bucket, path_kind}, Traces.{Move}, Value.{bucket_in, value_of_tree}, ValueLaws.{IsLonger}}, proofs.KindsApart.{kind-below}}
-use Rattle.cacache_calls.specs.StepPaths.{bucket_path}
+use Rattle.cacache_entry.{specs.{Entry.{Entry, closed_line}, Bucket.{entries_of}}, proofs.Lookups.{empty_holds_nothing}}
+use Rattle.cacache_value.{specs.{Kinds.{Bucket, path_kind}, Acts.{Move}, Value.{bucket_in, value_of_tree}, ValueLaws.{IsLonger}}, proofs.PathKinds.{kind-below}}
+use Rattle.cacache_calls.specs.Steps.{bucket_path}
 use Rattle.cacache_history.specs.{declared.record.Record.{Record}, History.{History}, Values.{bucket_at, steps_of}, durable.{Behind.{NoneAppends, StaysSynced}, Outlasting.{Outlasts, OutlastsWith, moment_at}}}
-use Rattle.cacache_history.proofs.durable.{AtMoves.{cache_here, calm_later, calm_move, here, leads_to_end, own_move}, DurableEntries.{WholeEntry, bucket_is, bucket_named, bucket_outlasts, bucket_synced, bucket_way, entry_outlasts}, GrownBuckets.{Stands, grown_after, kept_synced, left_as_fixed, still_after, whole_synced}, LineParts.{HoldsFirst, none_first}}
-use Rattle.cacache_loss.specs.{declared.fixing.Fixing.{Fixing}, Loss.{Loss, bytes_left, node_left}, LostValues.{LeftOf}, CalmMoves.{IsCalm}, Moments.{EachMove, Moment, after, lost_then}, Syncs.{SyncsFile}}
+use Rattle.cacache_history.proofs.durable.{DoneSyncs.{cache_here, calm_later, calm_move, here, leads_to_end, own_move}, DurableEntries.{WholeEntry, bucket_is, bucket_named, bucket_outlasts, bucket_synced, bucket_way, entry_outlasts}, GrownBuckets.{Stands, grown_after, kept_synced, left_as_fixed, still_after, whole_synced}, LineParts.{HoldsFirst, none_first}}
+use Rattle.cacache_loss.specs.{declared.fixing.Fixing.{Fixing}, Loss.{Loss, bytes_left, node_left}, LostValues.{LeftOf}, Moments.{IsCalm, EachMove, Moment, after, lost_then}, Syncs.{SyncsFile}}
 use Rattle.cacache_loss.proofs.{Buckets.{closed_entries, line_stands}, KeptPaths.{cache_next, each_calm}}
 use Rattle.cacache_loss.specs.Moments as moments
 

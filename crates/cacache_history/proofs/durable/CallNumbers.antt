@@ -1,10 +1,10 @@
 -- Calls that are on their way have numbers that differ, and so have their temporary files.
-use Rattle.std.proofs.{lemmas.{Grind.{common_steps}, List.{append_cancel_left}, Bool.{false_from_ne_true}}, Common.{rules, ◌≡◌, ◌<◌, ◌≤◌, ◌^◌, ◌+◌, ◌==◌, ℕ, Bool, true, false, cond, List, [], ◌∷◌, ◌++◌, Option, None, Some, Ok, option_map, refl, sym, ap, subst, ◌∙◌, arith, eqb-true}}
-use Rattle.cacache_core.specs.{PathNames.{Names, home_of, names_below, names_of}, Paths.{joined, temp_names}}
+use Rattle.std.proofs.{lemmas.{Grind.{common_steps}, List.{append_cancel_left}}, Common.{rules, ◌≡◌, ◌<◌, ◌≤◌, ◌^◌, ◌+◌, ◌==◌, ℕ, Bool, false, cond, List, [], ◌∷◌, ◌++◌, Option, None, Some, Ok, option_map, ap, subst, arith}}
+use Rattle.cacache_core.specs.Paths.{Names, home_of, names_below, names_of, joined, temp_names}
 use Rattle.cacache_core.proofs.{JoinedNames.{joined_texts_name}, PathTexts.{paths_differ}, ProperNames.{names_are_proper}}
-use Rattle.cacache_disk.{specs.{declared.luck.Luck.{Luck}, Tree.{Tree, same_path}}, proofs.Maps.{same_path-true}}
-use Rattle.cacache_calls.specs.{declared.reply.Reply.{Reply}, StepPaths.{temp_path}}
-use Rattle.cacache_history.specs.{declared.record.Record.{Record, TheVariants.{Began, Moved, Stopped}}, Setup.{Setup}, History.{Call, Made, Now, new_call, initial, call_after, now_after, replayed, unless_over}}
+use Rattle.cacache_disk.{specs.{declared.luck.Luck.{Luck}, Tree.{Tree}}, proofs.Maps.{same_path-true}}
+use Rattle.cacache_calls.specs.{declared.reply.Reply.{Reply}, Steps.{temp_path}}
+use Rattle.cacache_history.specs.{declared.record.Record.{Record, TheVariants.{Began, Moved, Stopped}}, Setup.{Setup}, History.{Call, Made, Now, initial, call_after, now_after, replayed, unless_over}}
 use Rattle.cacache_loss.specs.Fixing.{is_at}
 
 -- ---- paths of temporary files

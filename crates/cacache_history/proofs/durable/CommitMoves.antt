@@ -4,8 +4,8 @@ use Rattle.cacache_core.specs.declared.errors.Fault.TheVariants as faults
 use Rattle.cacache_core.specs.declared.{errors.{SerdeCause.{SerdeCause}, Error.{Error, TheVariants.{IoError, SerdeError, OutOfMemory}}}, integrity.digest.Hash.{Hash}}
 use Rattle.cacache_store.specs.declared.store.answer.Answer.TheVariants as answers
 use Rattle.cacache_store.specs.declared.store.step.Step.TheVariants as steps
-use Rattle.cacache_store.specs.{Fits.{Fits}, Plain.{PlainStep, PlainAnswer}}
-use Rattle.cacache_calls.specs.{declared.{answers.Refusal.{Refusal}, reply.Reply.TheVariants.{Stored}}, Answers.{done_in, there_in, taken_in}, StepPaths.{bucket_path, bucket_folders}, State.{State, doing, appending, over, Insertion, Errand, make_folder, sync_file, sync_dir}, Common.{ends_with, fails, go_on, errand_step, sync_up}, Inserting.{insert, unless_refused, refused_cause, bucket_line, recorded, after_append}, Table.{wants, after}, Runs.{Moves, Runs}}
+use Rattle.cacache_store.specs.Plain.{Fits, PlainStep, PlainAnswer}
+use Rattle.cacache_calls.specs.{declared.{answers.Refusal.{Refusal}, reply.Reply.TheVariants.{Stored}}, Answers.{done_in, there_in, taken_in}, Steps.{bucket_path, bucket_folders}, State.{State, doing, appending, over, Insertion, Errand, make_folder, sync_file, sync_dir}, Common.{ends_with, fails, go_on, errand_step, sync_up}, Inserting.{insert, unless_refused, refused_cause, bucket_line, recorded, after_append}, Table.{wants, after}, Runs.{Moves, Runs}}
 use Rattle.cacache_calls.specs.declared.answers.Refusal.TheVariants as refusals
 use Rattle.cacache_history.{specs.History.{Made}, proofs.{durable.Ending.{Has}, Each.{any_left, any_right}}}
 

@@ -1,15 +1,15 @@
 -- A durable commit that had done nothing yet puts its content, and adds its entry, in the records that follow.
 use Rattle.std.proofs.Common.{◌≡◌, ◌⊎◌, inl, inr, ◌≤◌, ℕ, true, List, [], ◌∷◌, ◌++◌, None, Some, Ok, length, take, refl, sym, ap, subst, ◌∙◌, append_assoc, arith, length-append}
-use Rattle.cacache_core.specs.{declared.integrity.digest.Hash.{Hash}, PathNames.{Names, names_of}}
+use Rattle.cacache_core.specs.{declared.integrity.digest.Hash.{Hash}, Paths.{Names, names_of}}
 use Rattle.cacache_store.specs.declared.store.plain.PlainTemp.{PlainTemp}
 use Rattle.cacache_store.specs.declared.store.answer.Answer.TheVariants as answers
 use Rattle.cacache_store.specs.declared.store.step.Step.TheVariants as steps
 use Rattle.cacache_disk.specs.declared.luck.Luck.{Luck}
 use Rattle.cacache_entry.{specs.{Entry.{Entry, line_of, closing, closed_line}, Bucket.{entries_of}, FittingEntries.{IsEntry, IsWritable}}, proofs.EntryCauses.{Fits-no_cause}}
-use Rattle.cacache_calls.specs.{declared.{command.{Command.{Command}, Insert.{Insert}, Put.{Put}}, reply.Reply.{Reply, TheVariants.{Stored}}, carried.Commit.{Commit}}, StepPaths.{content_path, bucket_path}, State.{State, Insertion}, Inserting.{bucket_line, insertion, refused_cause}, Runs.{Moves, Runs, Goes}, Sound.{FormedIfWritten, MayBegin}, Storing.{insertion_of, put_commit, secured}, Table.{after, opening}}
+use Rattle.cacache_calls.specs.{declared.{command.{Command.{Command}, Insert.{Insert}, Put.{Put}}, reply.Reply.{Reply, TheVariants.{Stored}}, carried.Commit.{Commit}}, Steps.{content_path, bucket_path}, State.{State, Insertion}, Inserting.{bucket_line, insertion, refused_cause}, Runs.{Moves, Runs, Goes}, Sound.{FormedIfWritten, MayBegin}, Storing.{insertion_of, put_commit, secured}, Table.{after, opening}}
 use Rattle.cacache_calls.specs.declared.command.Command.TheVariants as commands
-use Rattle.cacache_value.{specs.{Acts.{PutBytes, AddEntries}, Traces.{Move}}, proofs.AppendedLines.{whole_closed}}
-use Rattle.cacache_history.specs.{declared.record.Record.{Record}, Setup.{call_site, is_outside, may_export}, History.{History, IsLegal, Made, Turn, now_at}, Turns.{made_in, EachTurn}, Commits.{Deed, does, finds, deeds, deeds_of}, durable.Ending.{EndsFrom}}
+use Rattle.cacache_value.{specs.Acts.{PutBytes, AddEntries, Move}, proofs.MadeFolders.{whole_closed}}
+use Rattle.cacache_history.specs.{declared.record.Record.{Record}, Setup.{call_site, is_outside, may_export}, History.{History, IsLegal, Made, Turn, now_at}, Turns.{made_in, EachTurn}, Commits.{Deed, does, finds, deeds, deeds_of}, durable.QuietMoves.{EndsFrom}}
 use Rattle.cacache_history.proofs.{Contents.Carrying.{Makes, own_bytes, own_of}, Histories.Holding.{CallHolds, held_at, legal_after, of_caller}, durable.{Ending.{Has, PlaceOf, own_moves, own_runs, place_of}, CommitMoves.{Appends, Stores, inserted}, PutMoves.{Places, put_places, secures_found}}}
 
 -- ---- the whole run of a call

@@ -1,18 +1,17 @@
 -- A content that a durable put stored outlasts a loss, once its folders are synced, and so does a link that it found there.
 use Rattle.std.{proofs.Common.{rules, ◌≡◌, inl, inr, ℕ, true, List, [], ◌∷◌, ◌++◌, Option, None, Some, Ok, refl, sym, ap, subst, ◌∙◌, arith}, specs.Prelude.{IfOk}}
-use Rattle.cacache_core.specs.{declared.integrity.digest.Hash.{Hash}, Integrity.{IsHash}, PathNames.{Names, names_below, names_of}, Paths.{content_names, folders_to, joined}}
+use Rattle.cacache_core.specs.{declared.integrity.digest.Hash.{Hash}, Integrity.{IsHash}, Paths.{Names, names_below, names_of, content_names, folders_to, joined}}
 use Rattle.cacache_core.proofs.{JoinedNames.{joined_texts_name}, ProperNames.{names_are_proper}}
 use Rattle.cacache_store.specs.{declared.store.plain.PlainTemp.{PlainTemp}, Plain.{PlainAnswer}}
 use Rattle.cacache_store.specs.declared.store.step.Step.TheVariants as steps
 use Rattle.cacache_store.specs.declared.store.answer.Answer.TheVariants as answers
 use Rattle.cacache_disk.specs.{declared.node.Node.{Node, TheVariants.{Folder, File, Link}}, Tree.{Tree, look}, Apply.{apply}}
 use Rattle.cacache_calls.specs.Runs.{Moves}
-use Rattle.cacache_value.specs.{Kinds.{Content, node_below, path_kind}, Placed.{MayStand}, Traces.{Move}, Value.{AtLink, blob_in}}
-use Rattle.cacache_value.proofs.{FoundPaths.{suits}, KindsApart.{kind-below}}
-use Rattle.cacache_history.specs.{declared.record.Record.{Record}, Setup.{home}, History.{History, Made, now_at}, Values.{steps_of, value_at}, durable.Outlasting.{moment_at}}
-use Rattle.cacache_history.proofs.{Histories.Values.{contents_are_right}, durable.{AtMoves.{QuietPlace, after_own, cache_here, cache_text, calm_later, calm_move, here, leads_to_end, own_move, own_record, split, texts_here}, CommitMoves.{HasDirs}, DoneSyncs.{none_synced}, QuietSteps.{calm_at}, StoodLinks.{stood_before}, Traces.{moment_more, of_cache_at, tree_at}}}
-use Rattle.cacache_loss.specs.{CalmMoves.{AreCalm, IsCalm, OfBytes, PutWell, PutsMove, PutsStep}, Fixing.{place_now}, Loss.{Loss}, LossLaws.{GoodNode, HasDigest, IsSafe}, LostTrees.{OfCache}, Moments.{Moment, after, lost_then, next}, Syncs.{IsFileSync, IsPut, SyncsFolders}}
-use Rattle.cacache_loss.proofs.{CommitFolders.{five_for_contents}, Commits.{found_stays, put_safe}, Contents.{GoodOrLink, contents_survive}, KeptPaths.{cache_next}, StepCases.{PersistCase, moved, persist_case, refused}}
+use Rattle.cacache_value.{specs.{Kinds.{Content, path_kind}, Placed.{MayStand}, Acts.{Move}, Value.{AtLink, blob_in}}, proofs.{Applying.{suits}, PathKinds.{kind-below}}}
+use Rattle.cacache_history.specs.{declared.record.Record.{Record}, Setup.{home}, History.{History, Made}, Values.{steps_of, value_at}, durable.Outlasting.{moment_at}}
+use Rattle.cacache_history.proofs.{Histories.Values.{contents_are_right}, durable.{DoneSyncs.{QuietPlace, after_own, cache_here, cache_text, calm_later, calm_move, here, leads_to_end, own_move, own_record, split, texts_here, none_synced}, CommitMoves.{HasDirs}, QuietSteps.{calm_at, stood_before}, Traces.{moment_more, of_cache_at, tree_at}}}
+use Rattle.cacache_loss.specs.{Moments.{AreCalm, IsCalm, OfBytes, PutWell, PutsMove, PutsStep, Moment, after, lost_then, next}, Fixing.{place_now}, Loss.{Loss}, LossLaws.{GoodNode, HasDigest, IsSafe}, LostTrees.{OfCache}, Syncs.{IsFileSync, IsPut, SyncsFolders}}
+use Rattle.cacache_loss.proofs.{SyncedFolders.{five_for_contents}, Commits.{found_stays, put_safe}, Contents.{GoodOrLink, contents_survive}, KeptPaths.{cache_next}, StepCases.{PersistCase, moved, persist_case, refused}}
 
 -- ---- a file that is put
 

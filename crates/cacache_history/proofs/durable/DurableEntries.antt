@@ -2,19 +2,18 @@
 use Rattle.std.proofs.{Common.{rules, ◌≡◌, ℕ, true, List, [], ◌∷◌, ◌++◌, Option, None, Some, Ok, fold, length, refl, sym, ap, subst, ◌∙◌, append_assoc, arith}, lemmas.List.Sums.{fold-append}}
 use Rattle.std.specs.Prelude.{unwrap_or}
 use Rattle.sha1.specs.Sha1.{sha1}
-use Rattle.cacache_core.specs.{PathNames.{Names, names_below, names_of}, Paths.{bucket_names_of}}
+use Rattle.cacache_core.specs.Paths.{Names, names_below, names_of, bucket_names_of}
 use Rattle.cacache_core.proofs.{JoinedNames.{joined_texts_name}, PathLemmas.{keys_have_digests}, ProperNames.{names_are_proper}}
 use Rattle.cacache_store.specs.declared.store.step.Step.TheVariants as steps
 use Rattle.cacache_store.specs.declared.store.answer.Answer.TheVariants as answers
-use Rattle.cacache_disk.specs.{declared.node.Node.{Node, TheVariants.{File}}, Tree.{Tree, bytes_of, look}}
-use Rattle.cacache_entry.specs.{Entry.{Entry, closed_line}, Bucket.{entries_of}, FittingEntries.{IsEntry, IsWritable}, Latest.{after_entry, latest}}
-use Rattle.cacache_entry.proofs.Lines.{empty_holds_nothing}
-use Rattle.cacache_calls.specs.{Runs.{Moves}, StepPaths.{bucket_folders, bucket_path}}
-use Rattle.cacache_value.{specs.{Acts.{list_of}, Kinds.{node_below}, Value.{bucket_in, value_of_tree}}, proofs.KindsApart.{kind-below}}
-use Rattle.cacache_history.specs.{declared.record.Record.{Record}, Setup.{home}, History.{History, Made, now_at}, Values.{bucket_at, steps_of}, durable.Outlasting.{EntryOutlasts, Outlasts, moment_at}}
-use Rattle.cacache_history.proofs.durable.{AtMoves.{QuietPlace, cache_here, cache_text, calm_later, calm_move, here, leads_to_end, own_move, own_record, texts_here}, CommitMoves.{HasDirs}, DoneSyncs.{syncs_file}, Ending.{Has}, Traces.{tree_at}}
+use Rattle.cacache_disk.specs.{declared.node.Node.{Node}, Tree.{Tree, bytes_of, look}}
+use Rattle.cacache_entry.{specs.{Entry.{Entry, closed_line}, Bucket.{entries_of, after_entry, latest}, FittingEntries.{IsEntry, IsWritable}}, proofs.Lookups.{empty_holds_nothing}}
+use Rattle.cacache_calls.specs.{Runs.{Moves}, Steps.{bucket_folders, bucket_path}}
+use Rattle.cacache_value.{specs.{Acts.{list_of}, Value.{bucket_in, value_of_tree}}, proofs.PathKinds.{kind-below}}
+use Rattle.cacache_history.specs.{declared.record.Record.{Record}, Setup.{home}, History.{History, Made}, Values.{bucket_at, steps_of}, durable.Outlasting.{EntryOutlasts, Outlasts, moment_at}}
+use Rattle.cacache_history.proofs.durable.{DoneSyncs.{QuietPlace, cache_here, cache_text, calm_later, calm_move, here, leads_to_end, own_move, own_record, texts_here, syncs_file}, CommitMoves.{HasDirs}, Ending.{Has}, Traces.{tree_at}}
 use Rattle.cacache_loss.specs.{Loss.{Loss}, LossLaws.{HoldsEntries}, LostValues.{LeftOf}, Moments.{lost_then}, Syncs.{SyncsFile, SyncsFolders}}
-use Rattle.cacache_loss.proofs.{Buckets.{entries_survive}, CommitFolders.{four_for_buckets}, LostValues.{entries_are_held}}
+use Rattle.cacache_loss.proofs.{Buckets.{entries_survive}, SyncedFolders.{four_for_buckets}, LostTrees.{entries_are_held}}
 
 -- the append of an entry's closed line, which was taken whole
 abbrev pub whole_append : List ℕ → Entry → Made

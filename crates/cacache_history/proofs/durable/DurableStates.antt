@@ -1,10 +1,10 @@
 -- The states of a durable put: it moves its temporary file right after the sync of it.
-use Rattle.std.proofs.Common.{arith, rules, ◌≡◌, ◌⊎◌, inl, inr, ◌==◌, ℕ, true, false, List, [], ◌∷◌, Option, Some, Ok, length, drop, nat_le, sym, subst, ◌∙◌}
+use Rattle.std.proofs.Common.{arith, rules, ◌≡◌, ◌⊎◌, inl, inr, ℕ, true, List, Option, Some, Ok, length, nat_le, subst}
 use Rattle.cacache_core.specs.declared.errors.Fault.TheVariants as faults
 use Rattle.cacache_store.specs.{declared.store.plain.PlainTemp.{PlainTemp}, Plain.{PlainStep, PlainAnswer}}
 use Rattle.cacache_store.specs.declared.store.step.Step.TheVariants as steps
-use Rattle.cacache_calls.specs.{Answers.{done_in, temp_in, written_in, synced_in, there_in, taken_in}, Common.{fails}, Inserting.{bucket_line, recorded, after_append}, State.{State, doing, creating, writing, syncing, persisting, confirming, appending, over, make_folder, sync_file, sync_dir}, declared.carried.Commit.{Commit}, StepPaths.{content_path, temp_path, bucket_path}, Storing.{placed, secured, secured_found, move_in, write_rest, after_write, after_confirm}, Table.{wants, after}}
-use Rattle.cacache_calls.proofs.{Branches.{cond_leads, go_on_leads}, Leading.{secures, secures_found, records, places}, Sound.{some_is}}
+use Rattle.cacache_calls.specs.{Answers.{done_in, temp_in, synced_in, there_in, taken_in}, Common.{fails}, Inserting.{bucket_line, recorded, after_append}, State.{State, doing, creating, writing, syncing, persisting, confirming, appending, over, make_folder, sync_file, sync_dir}, declared.carried.Commit.{Commit}, Storing.{placed, secured, secured_found, move_in, write_rest, after_confirm}, Table.{wants, after}}
+use Rattle.cacache_calls.proofs.{Going.{cond_leads, go_on_leads, secures, secures_found, records, places}, Sound.{some_is}}
 
 -- the temporary file isn't moved before it is synced
 abbrev pub Waits : State → Type 0

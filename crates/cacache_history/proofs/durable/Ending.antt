@@ -1,9 +1,9 @@
 -- The moves of a call until it ends: they are a run of it, and each has its place in the records.
-use Rattle.std.proofs.{Common.{arith, rules, ◌≡◌, ◌⊎◌, inl, inr, ◌==◌, ℕ, Bool, true, false, cond, List, [], ◌∷◌, ◌++◌, Option, None, Some, option_map, refl, sym, ap, subst, ◌∙◌, eqb-true, eq-eqb}, lemmas.Grind.{common_steps}}
+use Rattle.std.proofs.{Common.{arith, rules, ◌≡◌, ◌⊎◌, ◌==◌, ℕ, Bool, true, false, cond, List, [], ◌∷◌, ◌++◌, Option, None, Some, option_map, refl, sym, ap, subst, ◌∙◌, eqb-true, eq-eqb}, lemmas.Grind.{common_steps}}
 use Rattle.cacache_disk.specs.{declared.luck.Luck.{Luck}, Tree.{Tree}}
 use Rattle.cacache_calls.specs.{declared.reply.Reply.{Reply}, State.{State, over}, Runs.{Moves, Runs, plain_reply}}
-use Rattle.cacache_value.specs.Traces.{Move}
-use Rattle.cacache_history.specs.{declared.record.Record.{Record, TheVariants.{Began, Moved, Stopped}}, Setup.{Setup}, History.{Call, Now, Made, call_after, set_call, now_after, replayed, Ends, MayMove, MayCome, Legal}, Values.{steps_of}, durable.Ending.{EndsHere, CallEndsWith}}
+use Rattle.cacache_value.specs.Acts.{Move}
+use Rattle.cacache_history.specs.{declared.record.Record.{Record, TheVariants.{Began, Moved, Stopped}}, Setup.{Setup}, History.{Call, Now, Made, call_after, set_call, now_after, replayed, Ends, MayMove, MayCome, Legal}, Values.{steps_of}, durable.QuietMoves.{EndsHere, CallEndsWith}}
 
 -- ---- the caller's own moves
 

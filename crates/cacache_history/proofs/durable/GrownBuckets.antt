@@ -1,13 +1,13 @@
 -- A bucket through calm moves: it grows by parts of lines, and a loss leaves it as far as its file is fixed.
 use Rattle.std.proofs.{lemmas.Grind.{common_steps}, Common.{rules, ◌≡◌, ◌≤◌, inl, inr, ℕ, Bool, true, false, cond, List, [], ◌∷◌, ◌++◌, Option, None, Some, length, take, refl, sym, ap, subst, ◌∙◌, arith, append_assoc, append-nil, length-append}}
 use Rattle.std.specs.Prelude.{bytes_eq}
-use Rattle.cacache_core.specs.PathNames.{Names, names_of}
+use Rattle.cacache_core.specs.Paths.{Names, names_of}
 use Rattle.cacache_store.specs.{declared.store.step.Step.TheVariants.{CreateTemp, Write, Persist, Append, SyncTemp, SyncFile, SyncDir}, Plain.{PlainStep, PlainAnswer}}
-use Rattle.cacache_disk.specs.{declared.{luck.Luck.{Luck}, node.Node.{Node, TheVariants.{File}}}, Tree.{Tree, look, same_path, bytes_of}, Rooted.{Rooted}, LedTo.{leads}, Apply.{apply, make_some}}
+use Rattle.cacache_disk.specs.{declared.{luck.Luck.{Luck}, node.Node.{Node, TheVariants.{File}}}, Tree.{Tree, look, same_path, bytes_of, Rooted}, Apply.{apply, make_some}}
 use Rattle.cacache_disk.proofs.{Maps.{same_path-true}, PutNodes.{look-put}, Roots.{same_self}}
-use Rattle.cacache_value.specs.{Kinds.{Content, Bucket, Temporary, path_kind, is_used, Way}, Placed.{IsEntryLine, Placed, Proper}, Traces.{Move}}
-use Rattle.cacache_loss.specs.{declared.fixing.{Fixing.{Fixing}, Place.{Place}}, Fixing.{Fixed, changed, file_synced, fixed_after, folder_synced, is_at, is_child_of, is_sync, is_synced, place_now, refixed, synced, temp_synced}, Loss.{Loss, node_left}, Moments.{EachMove, Moment, after, lost_then, next}, LostTrees.{OfCache}, CalmMoves.{CalmStep, IsCalm, is_calm}, Syncs.{IsFileSync, SyncsFile, SyncsFolders}}
-use Rattle.cacache_loss.proofs.{Buckets.{leads_file}, StepCases.{AppendCase, unsent, took, torn, append_case, grown, make_apart}, UnchangedPaths.{at_false, Misses, file_kept, name_kept}, KeptPaths.{cond_none, cond_whole, keeps, files_keep, names_kept, sync_tree, cache_next}, SyncedFolders.{IsLeft, survives, Any, any, not_top}}
+use Rattle.cacache_value.specs.{Kinds.{Content, Bucket, Temporary, path_kind, is_used, Way}, Placed.{IsEntryLine, Placed, Proper}, Acts.{Move}}
+use Rattle.cacache_loss.specs.{declared.fixing.{Fixing.{Fixing}, Place.{Place}}, Fixing.{Fixed, changed, fixed_after, is_at, is_sync, is_synced, place_now, refixed, synced, temp_synced}, Loss.{Loss, node_left}, Moments.{EachMove, Moment, after, lost_then, next, CalmStep, IsCalm, is_calm}, LostTrees.{OfCache}, Syncs.{IsFileSync, SyncsFile, SyncsFolders}}
+use Rattle.cacache_loss.proofs.{Buckets.{leads_file}, StepCases.{AppendCase, unsent, took, torn, append_case, grown, make_apart}, Reaching.{at_false, Misses, file_kept, name_kept}, KeptPaths.{cond_none, cond_whole, keeps, files_keep, names_kept, sync_tree, cache_next}, SyncedFolders.{IsLeft, survives, Any, any, not_top}}
 use Rattle.cacache_history.{specs.durable.Behind.{NoneAppends, StaysSynced, appends_at}, proofs.durable.LineParts.{HoldsFirst, IsPart, more_first}}
 
 module _ (home : Option Names) (c : Names) (at : path_kind home c ≡ Bucket) where

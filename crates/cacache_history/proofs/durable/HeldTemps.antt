@@ -1,15 +1,14 @@
 -- At each place the temporary file of a durable put that is moved next is synced, or gone.
-use Rattle.std.proofs.{lemmas.{Grind.{common_steps}, Bool.{eq-eqb}}, Common.{rules, ◌≡◌, inl, inr, ◌<◌, ◌≤◌, ◌^◌, ◌==◌, ℕ, Bool, true, false, cond, List, [], ◌∷◌, ◌++◌, Option, None, Some, Ok, option_map, refl, sym, ap, subst, ◌∙◌, arith}}
-use Rattle.cacache_core.specs.PathNames.{Names, names_of}
+use Rattle.std.proofs.{lemmas.Grind.{common_steps}, Common.{rules, ◌≡◌, inl, ◌<◌, ◌≤◌, ◌^◌, ◌==◌, ℕ, Bool, true, cond, List, [], ◌∷◌, ◌++◌, Option, None, Some, Ok, option_map, refl, sym, ap, subst, ◌∙◌, arith}}
+use Rattle.cacache_core.specs.Paths.{Names, names_of}
 use Rattle.cacache_store.specs.{declared.store.plain.PlainTemp.{PlainTemp}, Plain.{PlainStep, PlainAnswer}}
 use Rattle.cacache_store.specs.declared.store.step.Step.TheVariants as steps
-use Rattle.cacache_store.specs.declared.store.answer.Answer.TheVariants as answers
 use Rattle.cacache_disk.{specs.{declared.luck.Luck.{Luck}, Tree.{Tree}, Apply.{apply}}, proofs.Roots.{same_self}}
-use Rattle.cacache_calls.specs.{declared.{command.{Command.{Command}, Put.{Put}}, reply.Reply.{Reply}}, Answers.{synced_in}, Sound.{Allowed, Sound}, State.{State, persisting}, StepPaths.{temp_path}, Table.{opening}}
+use Rattle.cacache_calls.specs.{declared.{command.{Command.{Command}, Put.{Put}}, reply.Reply.{Reply}}, Answers.{synced_in}, Sound.{Allowed, Sound}, State.{State, persisting}, Steps.{temp_path}, Table.{opening}}
 use Rattle.cacache_calls.proofs.Sound.{steps_allowed}
 use Rattle.cacache_calls.specs.declared.command.Command.TheVariants as commands
-use Rattle.cacache_value.{specs.{Kinds.{Temporary, path_kind}, OpeningTrees.{LieApart}, Placed.{Placed, Proper}}, proofs.FoundPaths.{of_names}}
-use Rattle.cacache_history.specs.{declared.record.Record.{Record, TheVariants.{Began, Moved, Stopped}}, Setup.{Setup, call_site, home, is_outside, may_export}, History.{Call, History, IsLegal, Legal, Made, MayMove, Now, new_call, initial, call_after, now_after, now_at, replayed, unless_over}, Values.{steps_of}, durable.{FewCalls.{FewCalls}, Outlasting.{moment_at}}}
+use Rattle.cacache_value.{specs.{Kinds.{Temporary, path_kind}, Placed.{LieApart, Placed, Proper}}, proofs.Applying.{of_names}}
+use Rattle.cacache_history.specs.{declared.record.Record.{Record, TheVariants.{Began, Moved, Stopped}}, Setup.{Setup, call_site, home, is_outside, may_export}, History.{Call, History, IsLegal, Legal, Made, MayMove, Now, new_call, initial, call_after, now_after, now_at, replayed, unless_over}, Values.{steps_of}, durable.{QuietMoves.{FewCalls}, Outlasting.{moment_at}}}
 use Rattle.cacache_history.proofs.{Histories.Holding.{AllHold, CallHolds, ended_at, first_holds, legal_before, made_proper, next_holds, of_caller, replay_more, set_at}, Syncing.{temp_synced}, durable.{CallNumbers.{Numbered, first_numbered, more_begun, next_numbered, number_below, numbers_apart, temps_apart}, DurableStates.{IsDurable, Moves, stays_durable}, QuietSteps.{temp_for}, TempSteps.{IsReady, Spares, ready_next}, Traces.{made_move}}}
 use Rattle.cacache_loss.specs.ChangedNames as loss
 use Rattle.cacache_loss.specs.{Fixing.{Fixed, fixed_after, is_synced}, Moments.{Moment, after}}

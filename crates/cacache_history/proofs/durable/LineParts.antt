@@ -1,8 +1,8 @@
 -- What appends leave of lines: cut anywhere, it holds the first of its entries.
 use Rattle.std.proofs.{lemmas.{Grind.{common_steps}, Bool.{leb-true, leb-false}, List.{length-take, take-append-le, take-take, take_all}}, Common.{rules, ◌≡◌, ◌⊎◌, inl, inr, ℕ, zero, suc, ◌+◌, ◌-◌, ◌≤◌, ◌<◌, List, [], ◌++◌, Bool, true, false, nat_le, Some, length, take, refl, sym, ap, subst, ◌∙◌, arith, append_assoc, append-nil}, Math.Seq.{take-append-add}}
 use Rattle.cacache_disk.specs.declared.node.Node.TheVariants.{File}
-use Rattle.cacache_entry.{specs.{Entry.{line_of, piece_of, closing}, Bucket.{entries_of}}, proofs.Lines.{empty_holds_nothing}}
-use Rattle.cacache_value.{specs.{Placed.{IsEntryLine}, ValueLaws.{IsLonger}}, proofs.AppendedLines.{bucket_left, torn_closed, whole_closed}}
+use Rattle.cacache_entry.{specs.{Entry.{line_of, piece_of, closing}, Bucket.{entries_of}}, proofs.Lookups.{empty_holds_nothing}}
+use Rattle.cacache_value.{specs.{Placed.{IsEntryLine}, ValueLaws.{IsLonger}}, proofs.MadeFolders.{bucket_left, torn_closed, whole_closed}}
 
 -- what an append leaves: nothing, or the first bytes of an entry's line
 abbrev pub IsPart : List ℕ → Type 0

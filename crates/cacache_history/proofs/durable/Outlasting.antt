@@ -1,16 +1,16 @@
 -- What durable commits stored outlasts each later loss of power.
 use Rattle.std.proofs.Common.{rules, ◌≡◌, ◌⊎◌, inl, inr, ℕ, true, List, [], ◌∷◌, ◌++◌, Option, None, Some, Ok, length, refl, sym, ap, subst, ◌∙◌, append_assoc}
 use Rattle.sha1.specs.Sha1.{sha1}
-use Rattle.cacache_core.specs.{declared.integrity.digest.Hash.{Hash}, Integrity.{IsHash}, PathNames.{Names, names_of}, Paths.{bucket_names_of, content_names, folders_to, joined}}
+use Rattle.cacache_core.specs.{declared.integrity.digest.Hash.{Hash}, Integrity.{IsHash}, Paths.{Names, names_of, bucket_names_of, content_names, folders_to, joined}}
 use Rattle.cacache_store.specs.declared.store.step.Step.TheVariants as steps
 use Rattle.cacache_store.specs.declared.store.answer.Answer.TheVariants as answers
 use Rattle.cacache_disk.specs.Tree.{Tree}
-use Rattle.cacache_calls.specs.{declared.{command.{Command.{Command}, Insert.{Insert}, Put.{Put}}, reply.Reply.{Reply, TheVariants.{Stored}}, carried.Commit.{Commit}}, Inserting.{insertion}, Runs.{Moves}, StepPaths.{bucket_path, content_folders, content_path}, Storing.{insertion_of, put_commit}}
+use Rattle.cacache_calls.specs.{declared.{command.{Command.{Command}, Insert.{Insert}, Put.{Put}}, reply.Reply.{Reply, TheVariants.{Stored}}, carried.Commit.{Commit}}, Inserting.{insertion}, Runs.{Moves}, Steps.{bucket_path, content_folders, content_path}, Storing.{insertion_of, put_commit}}
 use Rattle.cacache_calls.specs.declared.command.Command.TheVariants as commands
 use Rattle.cacache_value.specs.Value.{blob_in, value_of_tree}
-use Rattle.cacache_history.specs.{declared.record.Record.{Record}, AddedEntries.{address_of_put}, History.{History, IsLegal, Made, now_at}, Setup.{home}, durable.{Ending.{EndsFrom, CallEndsWith}, FewCalls.{FewCalls}, Outlasting.{AnsweredPut, DurableInsert, DurablePut, EntriesHaveBehind, FindsThere, FoundLink, HistoriesOutlive, InsertsHaveBehind, InsertsOutlast, KeyOutlasts, PutsHaveBehind, PutsOrLinksOutlast, PutsOutlast, moment_at}, QuietMoves.{AreQuiet}}}
-use Rattle.cacache_history.proofs.{Contents.Digests.{digest_hash}, durable.{AtMoves.{QuietPlace, here, own_record, quiet_here, split}, BehindEntries.{entry_behind}, CommitMoves.{HasDirs}, PutMoves.{Adds, secures}, CommitPlaces.{Secures, insert_appends, insert_formed, line_is, own, place_in, put_formed, put_secures, written_fits}, DurableContents.{content_named, found_left, put_outlasts}, DurableEntries.{WholeEntry, bucket_named, entry_outlasts, whole_append}, SyncedTemps.{put_well_at}, Traces.{losses_leave_caches}}}
-use Rattle.cacache_loss.{specs.{Loss.{Loss}, LossLaws.{GoodNode, HasDigest}, LostValues.{HoldsContent, LeftOf}, Moments.{lost_then}}, proofs.LostValues.{contents_are_held}}
+use Rattle.cacache_history.specs.{declared.record.Record.{Record}, AddedEntries.{address_of_put}, History.{History, IsLegal, Made, now_at}, Setup.{home}, durable.{QuietMoves.{EndsFrom, CallEndsWith, FewCalls, AreQuiet}, Outlasting.{AnsweredPut, DurableInsert, EntriesHaveBehind, FindsThere, FoundLink, HistoriesOutlive, InsertsHaveBehind, InsertsOutlast, KeyOutlasts, PutsHaveBehind, PutsOrLinksOutlast, PutsOutlast, moment_at}}}
+use Rattle.cacache_history.proofs.{Contents.Digests.{digest_hash}, durable.{DoneSyncs.{QuietPlace, here, own_record, quiet_here, split}, BehindEntries.{entry_behind}, CommitMoves.{HasDirs}, PutMoves.{Adds, secures}, CommitPlaces.{Secures, insert_appends, insert_formed, line_is, own, place_in, put_formed, put_secures, written_fits}, DurableContents.{content_named, found_left, put_outlasts}, DurableEntries.{WholeEntry, bucket_named, entry_outlasts, whole_append}, SyncedTemps.{put_well_at}, Traces.{losses_leave_caches}}}
+use Rattle.cacache_loss.{specs.{Loss.{Loss}, LossLaws.{GoodNode, HasDigest}, LostValues.{HoldsContent, LeftOf}, Moments.{lost_then}}, proofs.LostTrees.{contents_are_held}}
 
 module _ (h : History) (legal : IsLegal h) (folder : Names) (home_is : home h.setup ≡ Some folder) where
   -- a move of a call, after a place; from there on all others are quiet

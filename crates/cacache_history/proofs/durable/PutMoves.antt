@@ -1,11 +1,11 @@
 -- What a durable put that answered made, in order: its content, the syncs of its folders, and what its entry takes.
 use Rattle.std.proofs.Common.{arith, rules, ◌≡◌, ◌⊎◌, inl, inr, ◌==◌, ℕ, Bool, true, false, cond, List, [], ◌∷◌, ◌++◌, Option, None, Some, Result, Ok, Err, drop, refl, ap, subst, ◌∙◌}
-use Rattle.cacache_core.specs.declared.{errors.{Fault.{Fault}, IntegrityFault.TheVariants.{Check}, Error.{Error, TheVariants.{SizeMismatch, IoError, IntegrityError, OutOfMemory}}}, integrity.digest.Hash.{Hash}}
+use Rattle.cacache_core.specs.declared.{errors.{Fault.{Fault}, Error.{Error, TheVariants.{IoError, OutOfMemory}}}, integrity.digest.Hash.{Hash}}
 use Rattle.cacache_core.specs.declared.errors.Fault.TheVariants as faults
 use Rattle.cacache_store.specs.{declared.store.plain.PlainTemp.{PlainTemp}, Plain.{PlainAnswer}}
 use Rattle.cacache_store.specs.declared.store.answer.Answer.TheVariants as answers
 use Rattle.cacache_store.specs.declared.store.step.Step.TheVariants as steps
-use Rattle.cacache_calls.specs.{declared.{answers.Refusal.{Refusal}, command.Put.{Put}, carried.Commit.{Commit}}, Answers.{done_in, temp_in, written_in, synced_in, there_in}, StepPaths.{content_path, content_folders}, State.{State, doing, creating, writing, syncing, persisting, confirming, Site, make_folder, sync_file}, Common.{ends_with, fails, go_on, sync_up}, Storing.{insertion_of, indexed, sized, matches, compared, placed, secured, secured_found, move_in, write_rest, after_write, after_confirm, put_commit}, Table.{opening}, Runs.{Moves}}
+use Rattle.cacache_calls.specs.{declared.{answers.Refusal.{Refusal}, command.Put.{Put}, carried.Commit.{Commit}}, Answers.{done_in, temp_in, written_in, synced_in, there_in}, Steps.{content_path, content_folders}, State.{State, creating, writing, syncing, persisting, confirming, Site, make_folder}, Common.{ends_with, fails, go_on, sync_up}, Storing.{insertion_of, indexed, sized, compared, placed, secured, secured_found, write_rest, after_write, after_confirm, put_commit}, Table.{opening}, Runs.{Moves}}
 use Rattle.cacache_calls.specs.declared.answers.Refusal.TheVariants as refusals
 use Rattle.cacache_calls.specs.declared.command.Command.TheVariants as commands
 use Rattle.cacache_history.specs.History.{Made}

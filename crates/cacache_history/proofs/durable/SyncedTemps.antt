@@ -1,18 +1,18 @@
 -- What a durable put moves to its content's place is synced, and has the digest of its address.
-use Rattle.std.proofs.{lemmas.{Grind.{common_steps}, List.{append_cancel_left}}, Common.{◌≡◌, inl, inr, ℕ, true, List, [], ◌∷◌, ◌++◌, Option, None, Some, Result, Ok, Err, refl, sym, ap, subst, ◌∙◌, arith, append_assoc, append-nil}}
+use Rattle.std.proofs.{lemmas.{Grind.{common_steps}, List.{append_cancel_left}}, Common.{◌≡◌, ℕ, true, List, [], ◌∷◌, ◌++◌, Option, None, Some, Result, Ok, Err, refl, sym, ap, subst, ◌∙◌, arith, append_assoc, append-nil}}
 use Rattle.std.specs.Prelude.{IfOk}
-use Rattle.cacache_core.specs.{declared.{errors.Fault.{Fault, TheVariants.{NotFound}}, integrity.digest.Hash.{Hash}}, Integrity.{IsHash}, PathNames.{Names, home_of, names_below, names_of}, Paths.{content_names, joined}}
+use Rattle.cacache_core.specs.{declared.{errors.Fault.{Fault, TheVariants.{NotFound}}, integrity.digest.Hash.{Hash}}, Integrity.{IsHash}, Paths.{Names, home_of, names_below, names_of, content_names, joined}}
 use Rattle.cacache_core.proofs.{JoinedNames.{joined_texts_name}, PathTexts.{paths_differ}, ProperNames.{names_are_proper}}
 use Rattle.cacache_store.specs.{declared.store.plain.PlainTemp.{PlainTemp}, Plain.{PlainStep, PlainAnswer}}
 use Rattle.cacache_store.specs.declared.store.step.Step.TheVariants as steps
 use Rattle.cacache_store.specs.declared.store.answer.Answer.TheVariants as answers
 use Rattle.cacache_disk.specs.{declared.luck.Luck.{Luck}, Tree.{Tree, look}, LedTo.{kept, known}, Apply.{apply, unless}}
-use Rattle.cacache_calls.specs.{declared.{command.{Command.{Command}, Put.{Put}}, reply.Reply.{Reply}}, StepPaths.{content_path}, Table.{wants}}
+use Rattle.cacache_calls.specs.{declared.{command.{Command.{Command}, Put.{Put}}, reply.Reply.{Reply}}, Steps.{content_path}, Table.{wants}}
 use Rattle.cacache_calls.specs.declared.command.Command.TheVariants as commands
 use Rattle.cacache_value.proofs.Shows.{apply_answer}
-use Rattle.cacache_history.specs.{declared.record.Record.{Record, TheVariants.{Moved}}, AddedEntries.{address_of_put}, Setup.{call_site, home}, History.{Call, History, IsLegal, Made, initial, now_after, now_at}, Values.{steps_of}, durable.{FewCalls.{FewCalls}, Outlasting.{moment_at}, QuietMoves.{AreQuiet, IsQuiet, IsQuietMove, PutsDurably}}}
+use Rattle.cacache_history.specs.{declared.record.Record.{Record, TheVariants.{Moved}}, AddedEntries.{address_of_put}, Setup.{call_site, home}, History.{Call, History, IsLegal, Made, initial, now_after, now_at}, Values.{steps_of}, durable.{QuietMoves.{FewCalls, AreQuiet, IsQuiet, IsQuietMove, PutsDurably}, Outlasting.{moment_at}}}
 use Rattle.cacache_history.proofs.{Contents.{Carrying.{Makes, carries_makes, own_of}, Digests.{digest_hash}}, Histories.Holding.{CallHolds, held_at, legal_after, of_caller, replay_more}, durable.{DurableStates.{ready_file}, HeldTemps.{IsSynced, TempAt, temps_at}, Traces.{moment_more}}}
-use Rattle.cacache_loss.specs.{CalmMoves.{OfBytes, PutWell, PutsMove, PutsStep}, LossLaws.{HasDigest}, Moments.{EachMove, after}}
+use Rattle.cacache_loss.specs.{Moments.{OfBytes, PutWell, PutsMove, PutsStep, EachMove, after}, LossLaws.{HasDigest}}
 
 -- ---- no file is moved that isn't there
 
@@ -116,16 +116,6 @@ module _ (h : History) (legal : IsLegal h) (few : FewCalls h) (before rest : Lis
     pub step_puts : (step : PlainStep) (answer : PlainAnswer) (luck : Luck) → wants call.state ≡ Some step → answer ≡ (apply (now_at h before).tree step luck).0
         → PutsDurably path call.command step → PutsStep (HasDigest a) path (moment_at h before) step answer
     step_puts step answer luck w told durable = grind (arith, moved_good, makes)
-
--- what a durable put moved
-pub persist_synced : (h : History) → IsLegal h → FewCalls h → (before later : List Record) (caller : ℕ) (luck : Luck) (f : PlainTemp) (to : List ℕ) (told : Option Reply) (call : Call) (p : Put)
-    → h.records ≡ before ++ Moved caller luck (Some (steps.Persist f to, answers.Done)) told ∷ later → (now_at h before).calls caller ≡ Some call
-    → call.command ≡ commands.Put p → p.options.durable ≡ true → PersistsSynced h before p f to
-persist_synced h legal few before later caller luck f to told call p is at put durable =
-    let may = (legal_after h legal before (Moved caller luck (Some (steps.Persist f to, answers.Done)) told ∷ later) is).0 in
-    let same : may.0 ≡ call = (let some : Some may.0 ≡ Some call = sym may.1 ∙ at in cc) in
-    persists h legal few before (Moved caller luck (Some (steps.Persist f to, answers.Done)) told ∷ later) is caller call at f to luck p
-    (ap (λ (c : Call). wants c.state) (sym same) ∙ may.2.0) (sym may.2.1) put durable
 
 -- ---- all moves of quiet calls
 

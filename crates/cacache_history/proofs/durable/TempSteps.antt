@@ -1,14 +1,13 @@
 -- A step that neither makes nor writes a temporary file leaves it synced, or takes it away.
-use Rattle.std.proofs.{Common.{arith, rules, ◌≡◌, ◌⊎◌, inl, inr, ℕ, Bool, true, false, cond, List, [], Option, None, Ok, Err, refl, sym, ap, ◌∙◌}, lemmas.{Grind.{common_steps}, Bool.{false_from_ne_true}}}
-use Rattle.std.specs.Prelude.{Result, unwrap_or}
-use Rattle.cacache_core.specs.{declared.errors.Fault.{Fault}, PathNames.{Names, names_of}}
-use Rattle.cacache_store.specs.{declared.store.{step.Step.TheVariants.{CreateTemp, Write, Persist, Copy, SyncTemp, SyncFile, SyncDir}, answer.Answer.TheVariants.{Done}}, Plain.{PlainStep, PlainAnswer}}
-use Rattle.cacache_disk.specs.{declared.luck.Luck.{Luck}, Tree.{Tree, look, same_path, bytes_of}, LedTo.{leads, writable}, Apply.{apply}}
-use Rattle.cacache_disk.proofs.{Maps.{same_path-true}, Roots.{same_self}}
-use Rattle.cacache_value.specs.{Kinds.{PathKind, Content, Temporary, Elsewhere, path_kind, IsFor}, Placed.{Placed, Proper}, Traces.{Move}}
-use Rattle.cacache_value.proofs.{FoundPaths.{writable_out}, Temps.{Creates, as_was, came, temp_at, went}}
-use Rattle.cacache_loss.specs.{declared.fixing.Fixing.{Fixing}, Fixing.{Fixed, between, file_synced, fixed_after, folder_synced, is_at, is_synced, moved_to, moves_file, rewrites_at, temp_synced, writes_at}, Moments.{Moment, next}}
-use Rattle.cacache_loss.proofs.{KeptPaths.{cond_whole}, UnchangedPaths.{at_false, between_false, file_kept}}
+use Rattle.std.proofs.{Common.{arith, rules, ◌≡◌, ◌⊎◌, ℕ, Bool, true, false, cond, List, Option, None, Ok, Err, refl, sym, ap, ◌∙◌}, lemmas.{Grind.{common_steps}, Bool.{false_from_ne_true}}}
+use Rattle.std.specs.Prelude.{Result}
+use Rattle.cacache_core.specs.{declared.errors.Fault.{Fault}, Paths.{Names, names_of}}
+use Rattle.cacache_store.specs.{declared.store.{step.Step.TheVariants.{CreateTemp, Write, Persist, SyncTemp, SyncFile, SyncDir}, answer.Answer.TheVariants.{Done}}, Plain.{PlainStep, PlainAnswer}}
+use Rattle.cacache_disk.{specs.{declared.luck.Luck.{Luck}, Tree.{Tree, look, same_path}, LedTo.{writable}, Apply.{apply}}, proofs.{Maps.{same_path-true}, Roots.{same_self}}}
+use Rattle.cacache_value.specs.{Kinds.{PathKind, Content, Temporary, Elsewhere, path_kind, IsFor}, Placed.{Placed, Proper}, Acts.{Move}}
+use Rattle.cacache_value.proofs.{Applying.{writable_out}, Temps.{Creates, as_was, came, temp_at, went}}
+use Rattle.cacache_loss.specs.{declared.fixing.Fixing.{Fixing}, Fixing.{Fixed, fixed_after, folder_synced, is_at, is_synced, moved_to, moves_file, rewrites_at, writes_at}, Moments.{Moment, next}}
+use Rattle.cacache_loss.proofs.{KeptPaths.{cond_whole}, Reaching.{at_false, between_false, file_kept}}
 
 -- a step that neither makes the temporary file at this path nor writes it
 abbrev pub Spares : Names → PlainStep → Type 0

@@ -1,7 +1,7 @@
 -- Each place of a legal history has a cache's moment, from which its steps are a trace.
-use Rattle.std.proofs.Common.{rules, ◌≡◌, List, [], ◌∷◌, ◌++◌, None, Some, refl, sym, ap, subst}
+use Rattle.std.proofs.Common.{rules, ◌≡◌, List, [], ◌∷◌, ◌++◌, None, Some, refl, ap}
 use Rattle.cacache_disk.specs.{declared.luck.Luck.{Luck}, Apply.{apply}}
-use Rattle.cacache_value.specs.Traces.{IsTrace, Move}
+use Rattle.cacache_value.specs.Acts.{IsTrace, Move}
 use Rattle.cacache_history.specs.{declared.record.Record.{Record, TheVariants.{Began, Moved, Stopped}}, Setup.{Setup, home}, History.{History, IsLegal, Made, Now, initial, now_after, now_at, replayed}, Values.{steps_of}, durable.Outlasting.{LossesLeaveCaches, moment_at}}
 use Rattle.cacache_history.proofs.Histories.{Holding.{first_holds, held_at, legal_after, legal_before}, Values.{traced}}
 use Rattle.cacache_loss.specs.{ChangedNames.{opening}, LostTrees.{OfCache, StoodWell}, Moments.{Moment, after}}

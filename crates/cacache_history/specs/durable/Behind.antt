@@ -1,10 +1,10 @@
 -- What is left after a durable entry by a loss of power.
 use Rattle.std.specs.Prelude.{◌≡◌, ◌⊎◌, ℕ, List, [], ◌∷◌, ◌++◌, Bool, false}
 use Rattle.sha1.specs.Sha1.{sha1}
-use Rattle.cacache_core.specs.PathNames.{Names, names_of}
+use Rattle.cacache_core.specs.Paths.{Names, names_of}
 use Rattle.cacache_store.specs.{declared.store.step.Step.TheVariants.{Append}, Plain.{PlainStep}}
 use Rattle.cacache_entry.specs.Entry.{Entry}
-use Rattle.cacache_value.specs.{Traces.{Move}, ValueLaws.{IsLonger}}
+use Rattle.cacache_value.specs.{Acts.{Move}, ValueLaws.{IsLonger}}
 use Rattle.cacache_history.specs.{declared.record.Record.{Record}, History.{History}, Values.{bucket_at, steps_of}}
 use Rattle.cacache_loss.specs.{Fixing.{is_at}, Loss.{Loss}, Syncs.{IsFileSync}}
 

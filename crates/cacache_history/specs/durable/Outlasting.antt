@@ -1,15 +1,15 @@
 -- What durable commits leave after a loss of power.
 use Rattle.std.specs.Prelude.{◌≡◌, ◌⊎◌, ℕ, List, [], ◌∷◌, ◌++◌, Option, None, Some, true, fold, length}
 use Rattle.sha1.specs.Sha1.{sha1}
-use Rattle.cacache_core.specs.{declared.integrity.digest.Hash.{Hash}, PathNames.{Names}, Paths.{bucket_names, content_names, joined}}
+use Rattle.cacache_core.specs.{declared.integrity.digest.Hash.{Hash}, Paths.{Names, bucket_names, content_names, joined}}
 use Rattle.cacache_store.specs.declared.store.step.Step.TheVariants as steps
 use Rattle.cacache_store.specs.declared.store.answer.Answer.TheVariants as answers
 use Rattle.cacache_disk.specs.Tree.{Tree}
-use Rattle.cacache_entry.specs.{Entry.{Entry, closed_line}, Latest.{Found, answer_to, after_entry, latest}}
+use Rattle.cacache_entry.specs.{Entry.{Entry, closed_line}, Bucket.{Found, answer_to, after_entry, latest}}
 use Rattle.cacache_calls.specs.declared.command.Command.TheVariants as commands
-use Rattle.cacache_calls.specs.{declared.{command.{Insert.{Insert}, Put.{Put}}, reply.Reply.{Reply, TheVariants.{Stored}}}, Inserting.{insertion}, StepPaths.{bucket_path}, Storing.{insertion_of, put_commit}}
+use Rattle.cacache_calls.specs.{declared.{command.{Insert.{Insert}, Put.{Put}}, reply.Reply.{Reply, TheVariants.{Stored}}}, Inserting.{insertion}, Steps.{bucket_path}, Storing.{insertion_of, put_commit}}
 use Rattle.cacache_value.specs.Value.{AtLink, Value, value_of_tree}
-use Rattle.cacache_history.specs.{declared.record.Record.{Record, TheVariants.{Moved}}, AddedEntries.{address_of_put}, History.{History, IsLegal, initial, now_at}, Setup.{home}, Values.{bucket_at, steps_of, value_at}, durable.{Behind.{Behind}, Ending.{EndsFrom}, FewCalls.{FewCalls}, QuietMoves.{AreQuiet}}}
+use Rattle.cacache_history.specs.{declared.record.Record.{Record, TheVariants.{Moved}}, AddedEntries.{address_of_put}, History.{History, IsLegal, initial, now_at}, Setup.{home}, Values.{bucket_at, steps_of, value_at}, durable.{Behind.{Behind}, QuietMoves.{EndsFrom, FewCalls, AreQuiet}}}
 use Rattle.cacache_loss.specs.{ChangedNames.{LeavesCache, opening}, Loss.{Loss}, LostValues.{HoldsContent, LeftOf}, Moments.{Moment, after}}
 
 -- the tree after the first records of a history, and what of it is fixed
@@ -192,9 +192,10 @@ LossesLeaveCaches h =
 pub record Outlives (h : History) : Type 0 where
   -- each loss leaves one tree, that of a cache
   pub caches : LossesLeaveCaches h
-  -- what a durable put stored is there after it, if each call has a temporary file of its own
+  -- what a durable put that answered Ok stored is there after it, if it found no link, no other call
+  -- since removes, links, exports or puts that content plainly, and each call has its own temporary file
   pub puts : FewCalls h → PutsOutlast h
-  -- and so is the entry of a durable insertion
+  -- and so is the entry of a durable insertion, if no other call since removes, links or exports
   pub inserts : InsertsOutlast h
   -- what is left after the entry of a durable put
   pub behind_puts : PutsHaveBehind h

@@ -1,6 +1,6 @@
 //! The clock.
 ghost use Rattle.std.specs.Prelude.{ℕ, List, Option, None};
-ghost use Rattle.cacache_store.specs.Given.{AddsAnswer};
+ghost use Rattle.cacache_store.specs.Outside.{AddsAnswer};
 
 /// A source of the time.
 pub trait Clock: Drop {

@@ -1,6 +1,6 @@
 //! Numbers for temporary names.
 ghost use Rattle.std.specs.Prelude.{◌≡◌, ◌+◌, ◌%◌, ◌^◌, ℕ, List, Option, None};
-ghost use Rattle.cacache_store.specs.Given.{AddsAnswer};
+ghost use Rattle.cacache_store.specs.Outside.{AddsAnswer};
 
 use std::marker::Model;
 

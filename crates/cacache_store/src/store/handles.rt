@@ -1,6 +1,6 @@
 //! Open files and temporary files.
 ghost use Rattle.std.specs.{Prelude.{◌≡◌, ℕ, Result, ⊤, length}, Io.{ReadsAtMost, WritesAtMost, KnownBytes.{ReadConsumes, WriteAppends}}};
-ghost use Rattle.cacache_store.specs.{declared.store.plain.{PlainFile.{PlainFile}, PlainTemp.{PlainTemp}}, Failures.{Error}, Handles.{LeftFalls}};
+ghost use Rattle.cacache_store.specs.{declared.store.plain.{PlainFile.{PlainFile}, PlainTemp.{PlainTemp}}, Outside.{Error}, Plain.{LeftFalls}};
 
 use crate::store::plain::{PlainFile, PlainTemp};
 use std::io;

@@ -1,6 +1,6 @@
 //! Plain files: bytes in memory. Contracts see any file as a plain file.
 ghost use Rattle.std.specs.{Prelude.{◌≡◌, IsOk, length}, Io.{ReadsAtMost, KnownBytes.{ReadConsumes, WriteAppends}}};
-ghost use Rattle.cacache_store.specs.Handles.{LeftFalls, GivesAll, TakesAll};
+ghost use Rattle.cacache_store.specs.Plain.{LeftFalls, GivesAll, TakesAll};
 
 use crate::store::handles::{FileHandle, OpenedFile, TempFile, TempHandle};
 use cacache_core::bytes::Bytes;

@@ -2,11 +2,11 @@
 use Rattle.std.proofs.Common.{◌≡◌, inl, inr, ℕ, List, Option, Result, Ok, Err, refl}
 use Rattle.cacache_core.specs.declared.errors.{Error.{Error, TheVariants.{IoError, OutOfMemory}}, Fault.{Fault}}
 use Rattle.cacache_store.specs.declared.store.answer.Answer.TheVariants as answers
-use Rattle.cacache_store.specs.{declared.store.{log.LogItem.{LogItem}, plain.PlainFile.{PlainFile}}, Fits.{Fits, Logs}, Plain.{PlainStep, PlainAnswer}}
+use Rattle.cacache_store.specs.{declared.store.{log.LogItem.{LogItem}, plain.PlainFile.{PlainFile}}, Plain.{Fits, Logs, PlainStep, PlainAnswer}}
 use Rattle.cacache_store.specs.declared.store.step.Step.TheVariants as steps
 use Rattle.cacache_calls.specs.{declared.answers.Refusal.{Refusal}, Answers.{done_in, temp_in, file_in, length_in, got_in}, Common.{ends_with, fails, refuse}, Runs.{EndsAs}, SingleSteps.{FailsAt}}
 use Rattle.cacache_calls.specs.declared.answers.Refusal.TheVariants as refusals
-use Rattle.cacache_jobs.specs.Brought.{EndsRefused}
+use Rattle.cacache_jobs.specs.LeadsOn.{EndsRefused}
 
 -- ---- an answer that refuses a step
 

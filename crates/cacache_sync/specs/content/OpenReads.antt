@@ -1,14 +1,28 @@
--- Contents that are opened and read in pieces.
-use Rattle.std.specs.{Prelude.{◌≡◌, ◌⊎◌, ◌++◌, ℕ, List, [], Option, None, Some, Result, Ok, Err}, Io.KnownBytes.{Consumes}}
-use Rattle.cacache_core.specs.{declared.{errors.Error.{Error, TheVariants.{EntryNotFound}}, integrity.digest.Hash.{Hash}}, Pieces.{Compares}}
-use Rattle.cacache_store.specs.declared.store.answer.Answer.TheVariants as answers
+-- Contents that are opened and read in pieces, or to their end, and what a call took of its buffer.
+use Rattle.std.specs.{Prelude.{◌≡◌, ◌++◌, ℕ, List, Option, [], Result, Ok, Err, take, ◌⊎◌, None, Some, IfSome}, Io.KnownBytes.{Consumes, Appends}}
+use Rattle.cacache_core.specs.{declared.{errors.{Error.{Error, TheVariants.{EntryNotFound, IoError, IntegrityError, OutOfMemory}}, IntegrityFault.TheVariants.{Check}}, integrity.{digest.Hash.{Hash}, algorithm.Algorithm.{Algorithm}}}, Hashers.{Compares}, Integrity.{Meets, strongest, actual}}
 use Rattle.cacache_store.specs.declared.store.{log.LogItem.{LogItem}, plain.PlainFile.{PlainFile}}
+use Rattle.cacache_calls.specs.{declared.reply.Reply.{Reply, TheVariants.{LookedUp, Refused}}, Steps.{content_path}, Runs.{Ran, without_message}, Table.{opening}, SingleSteps.{Does, FailsAt}}
+use Rattle.cacache_sync.specs.{declared.content.reader.SyncReader.{SyncReader}, content.OpenWrites.{counted_bytes}}
+use Rattle.cacache_entry.specs.Bucket.{Found}
+use Rattle.cacache_jobs.specs.JobStates.{site_of}
+use Rattle.cacache_store.specs.declared.store.answer.Answer.TheVariants as answers
 use Rattle.cacache_store.specs.declared.store.step.Step.TheVariants as steps
 use Rattle.cacache_calls.specs.declared.command.Command.TheVariants as commands
-use Rattle.cacache_calls.specs.{declared.reply.Reply.{Reply, TheVariants.{LookedUp, Refused}}, StepPaths.{content_path}, Runs.{Ran, without_message}, Table.{opening}, SingleSteps.{Does, FailsAt}}
-use Rattle.cacache_sync.specs.declared.content.reader.SyncReader.{SyncReader}
-use Rattle.cacache_entry.specs.Latest.{Found}
-use Rattle.cacache_jobs.specs.Sites.{site_of}
+
+-- a beginning of these bytes was given, which what is left lost
+abbrev pub GivesPart :
+    {R : Type 0} → (R → Option (List ℕ)) → (R → R → List ℕ → Type 0) → R → R → List ℕ → Type 0
+GivesPart left gave old new bytes =
+    (front rest : List ℕ) × (bytes ≡ front ++ rest) × gave old new front
+    × Consumes (left old) (left new) front
+
+-- ---- what a call that moves bytes took of its buffer
+
+-- the front of a buffer that a call moved, and nothing if it failed
+abbrev pub passed : {E : Type 0} → Result ℕ E → List ℕ → List ℕ
+passed (Ok n) buf = take n buf
+passed (Err e) buf = []
 
 -- ---- bytes in pieces
 
@@ -73,3 +87,52 @@ module _ {F : Type 0} (file : F → PlainFile) (cache : List ℕ) where
         (c ≡ cache) × (k ≡ key) × FindsKey cache base key (LookedUp None) old new
     OpensKey (Err e) old new =
         FindsKey cache base key (Refused (without_message e)) old new ⊎ OpensFound (Err e) old new
+
+-- ---- the rest of a content: it is read to its end, and perhaps passed on to a writer
+
+-- these are all the bytes that a file has left, if those are known
+abbrev pub AreLeft : PlainFile → List ℕ → Type 0
+AreLeft file rest = IfSome file.bytes (λ bytes. rest ≡ bytes)
+
+-- a reader gave all that was left, and a writer got exactly that: so many bytes
+abbrev pub PassesOn :
+    {F : Type 0} → (F → PlainFile) → SyncReader F → SyncReader F
+    → Option (List ℕ) → Option (List ℕ) → ℕ → Type 0
+PassesOn file old new before after count =
+    (rest : List ℕ) × AreLeft (file old.file) rest × ReadsMore old new rest
+    × Appends before after rest × (count ≡ counted_bytes rest)
+
+-- the error says that a read or a write failed, or that memory was refused
+abbrev pub IsUnread : Error → Type 0
+IsUnread OutOfMemory = Unit {0}
+IsUnread (IoError fault message) = Unit {0}
+IsUnread e = ⊥
+
+module _ (file : PlainFile) (i : List Hash) (bytes : List ℕ) where
+  -- after these bytes the file gave its rest, and both together meet the integrity
+  abbrev pub MeetsWith : List ℕ → Type 0
+  MeetsWith rest = AreLeft file rest × Meets i (bytes ++ rest)
+
+  -- both together don't, and have another integrity
+  abbrev pub FailsWith : List ℕ → Error → Type 0
+  FailsWith rest e =
+      AreLeft file rest × (Meets i (bytes ++ rest) → ⊥)
+      × (e ≡ IntegrityError (Check i (actual i (bytes ++ rest))))
+
+  -- why the whole wasn't passed on and found right: a read or a write failed, or the check of all bytes
+  abbrev pub FailsToEnd : Error → Type 0
+  FailsToEnd OutOfMemory = Unit {0}
+  FailsToEnd (IoError fault message) = Unit {0}
+  FailsToEnd (IntegrityError fault) = (rest : List ℕ) × FailsWith rest (IntegrityError fault)
+  FailsToEnd e = ⊥
+
+  -- the rest was read, and the check found all bytes right, by its strongest algorithm
+  abbrev pub Finishes : Result Algorithm Error → Type 0
+  Finishes (Ok a) = ((rest : List ℕ) × MeetsWith rest) × (strongest i ≡ Some a)
+  Finishes (Err e) = FailsToEnd e
+
+  -- the rest was read, the writer got exactly that, and the check found all bytes right
+  abbrev pub CopiesTo : Option (List ℕ) → Option (List ℕ) → Result ℕ Error → Type 0
+  CopiesTo before after (Ok count) =
+      (rest : List ℕ) × MeetsWith rest × Appends before after rest × (count ≡ counted_bytes rest)
+  CopiesTo before after (Err e) = FailsToEnd e

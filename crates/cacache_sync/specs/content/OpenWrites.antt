@@ -1,10 +1,10 @@
 -- Contents that are written in pieces: how they open, what they took and what their commit is.
 use Rattle.std.specs.{Prelude.{◌≡◌, ◌≢◌, ◌⊎◌, ◌<◌, ◌^◌, ◌-◌, ◌++◌, ℕ, List, [], Option, None, Result, Ok, Err, min, length}, Io.KnownBytes.{Appends}, IoError.{error_kind}}
-use Rattle.cacache_core.specs.{declared.{errors.Error.{Error, TheVariants.{IoError, OutOfMemory}}, integrity.algorithm.Algorithm.{Algorithm}}, Contexts.{fault_of}, Hashers.{Holds, algorithm_of}, Integrity.{integrity_under}}
-use Rattle.cacache_store.specs.Failures as io
-use Rattle.cacache_calls.specs.{Blank.{blank}, declared.{command.Options.{Options}, reply.Reply.{Reply}, carried.Commit.{Commit}}, StepPaths.{temp_folder, temp_path}, Runs.{Ran}, Storing.{persist}, SingleSteps.{Does, FailsAt}}
+use Rattle.cacache_core.specs.{declared.{errors.Error.{Error, TheVariants.{IoError, OutOfMemory}}, integrity.algorithm.Algorithm.{Algorithm}}, Errors.{fault_of}, Hashers.{Holds, algorithm_of}, Integrity.{integrity_under}}
+use Rattle.cacache_store.specs.Outside as io
+use Rattle.cacache_calls.specs.{Common.{blank}, declared.{command.Options.{Options}, reply.Reply.{Reply}, carried.Commit.{Commit}}, Steps.{temp_folder, temp_path}, Runs.{Ran}, Storing.{persist}, SingleSteps.{Does, FailsAt}}
 use Rattle.cacache_store.specs.declared.store.answer.Answer.TheVariants as answers
-use Rattle.cacache_store.specs.{declared.{env.Env.{Env}, store.{log.LogItem.{LogItem}, plain.PlainTemp.{PlainTemp}}}, Given.{AddsAnswer}, Plain.{PlainStep, PlainAnswer}}
+use Rattle.cacache_store.specs.{declared.{env.Env.{Env}, store.{log.LogItem.{LogItem}, plain.PlainTemp.{PlainTemp}}}, Outside.{AddsAnswer}, Plain.{PlainStep, PlainAnswer}}
 use Rattle.cacache_store.specs.declared.store.step.Step.TheVariants as steps
 use Rattle.cacache_sync.specs.declared.content.writer.Writer.{Writer}
 
@@ -55,11 +55,12 @@ module _ {T : Type 0} (writes : T → ℕ → Result ℕ io.Error → T → Type
       ⊎ (WriteGave (Ok 0) file × (error_kind e ≡ io.WriteZero))
       ⊎ (IsInterrupted × (error_kind e ≡ io.TimedOut))
 
--- an interrupted write is tried again, and none of its errors is reported
+-- an interrupted read or write is tried again, and its error isn't reported
 abbrev pub IsRetried : io.Error → Type 0
 IsRetried e = error_kind e ≢ io.Interrupted
 
--- all of a buffer couldn't be written for such a fault, or there was no memory for the message
+-- all of a buffer couldn't be written: a write failed with this fault, took nothing, or was interrupted too often;
+-- or memory ran out
 abbrev pub IsWriteError : {T : Type 0} → (T → ℕ → Result ℕ io.Error → T → Type 0) → Error → Type 0
 IsWriteError writes OutOfMemory = Unit {0}
 IsWriteError {T} writes (IoError fault message) =

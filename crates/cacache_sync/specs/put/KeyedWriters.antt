@@ -1,10 +1,69 @@
--- Open writers: how they are opened, and what their commit does.
-use Rattle.std.specs.Prelude.{◌≡◌, ℕ, List, Option, Result, Ok, Err}
-use Rattle.cacache_core.specs.declared.errors.Error.{Error}
-use Rattle.cacache_store.specs.{declared.{env.Env.{Env}, store.{log.LogItem.{LogItem}, plain.PlainTemp.{PlainTemp}}}, Given.{AddsAnswer}}
-use Rattle.cacache_calls.specs.declared.{reply.Reply.{Reply}, carried.Commit.{Commit}}
-use Rattle.cacache_sync.specs.{content.OpenWrites.{IsFresh, Makes, FailsToMake, EndsWriter, content_commit}, declared.put.writer.SyncWriter.{SyncWriter}, put.Options.{Said, options_of}}
+-- What the options of a writer say, what a writing call puts, and open writers.
+use Rattle.std.specs.Prelude.{ℕ, Bool, false, List, Option, None, Some, ◌≡◌, Result, Ok, Err}
+use Rattle.serde_json.specs.Data.{Data, null}
+use Rattle.cacache_core.specs.declared.{integrity.{algorithm.Algorithm.{Algorithm, TheVariants.{Sha256}}, digest.Hash.{Hash}}, errors.Error.{Error}}
+use Rattle.cacache_calls.specs.{declared.{command.{Options.{Options}, Put.{Put}, Insert.{Insert}}, reply.Reply.{Reply}, carried.Commit.{Commit}}, Common.{blank}}
+use Rattle.cacache_store.specs.{declared.{env.Env.{Env}, store.{log.LogItem.{LogItem}, plain.PlainTemp.{PlainTemp}}}, Outside.{AddsAnswer}}
+use Rattle.cacache_sync.specs.{content.OpenWrites.{IsFresh, Makes, FailsToMake, EndsWriter, content_commit}, declared.put.writer.SyncWriter.{SyncWriter}}
 use Rattle.cacache_jobs.specs.Environment.{MomentOf}
+
+-- what was said of a content and of its entry
+pub record Said : Type 0 where
+  pub algorithm : Algorithm
+  pub size : Option ℕ
+  pub integrity : Option (List Hash)
+  pub metadata : Data
+  pub raw_metadata : Option (List ℕ)
+  pub durable : Bool
+  -- the entry's time; the clock is asked if none was set
+  pub time : Option ℕ
+
+-- what blank options say
+abbrev pub nothing_said : Said
+nothing_said = record {
+  algorithm = Sha256;
+  size = None;
+  integrity = None;
+  metadata = null;
+  raw_metadata = None;
+  durable = false;
+  time = None;
+}
+
+-- what options say if the algorithm alone was set
+abbrev pub saying : Algorithm → Said
+saying a = record nothing_said { algorithm = a }
+
+-- the same as the options of a command, which has its moment next to them
+abbrev pub options_of : Said → Options
+options_of s = record {
+  algorithm = s.algorithm;
+  size = s.size;
+  integrity = s.integrity;
+  metadata = s.metadata;
+  raw_metadata = s.raw_metadata;
+  durable = s.durable;
+}
+
+-- ---- what a writing call puts, and what an insertion inserts
+
+-- bytes that are put under a key, or without one
+abbrev pub put_of : Algorithm → Option (List ℕ) → List ℕ → ℕ → Put
+put_of a key bytes moment = record { key = key; «data» = bytes; moment = moment; options = blank a }
+
+-- under a key
+abbrev pub keyed_put : Algorithm → List ℕ → List ℕ → ℕ → Put
+keyed_put a key = put_of a (Some key)
+
+-- without a key; the moment has no effect
+abbrev pub unkeyed_put : Algorithm → List ℕ → Put
+unkeyed_put a bytes = put_of a None bytes 0
+
+-- an entry that is inserted, by what was said of it
+abbrev pub insert_of : List ℕ → Said → ℕ → Insert
+insert_of key s moment = record { key = key; moment = moment; options = options_of s }
+
+-- ---- open writers: how they are opened, and what their commit does
 
 -- the writer took nothing yet, and commits under this key with what was said
 pub record IsNewWriter {T : Type 0} (cache : List ℕ) (number : ℕ) (key : Option (List ℕ)) (s : Said)

@@ -1,12 +1,76 @@
--- Links whose target is read in pieces before they are made.
-use Rattle.std.specs.{Prelude.{◌≡◌, ◌⊎◌, ◌-◌, ◌^◌, ◌++◌, ℕ, List, [], Option, None, Some, Result, Ok, Err, length, min}, Io.KnownBytes.{Consumes}}
-use Rattle.cacache_core.specs.{declared.{errors.Error.{Error}, integrity.digest.Hash.{Hash}}, Hashers.{Holds, algorithm_of}}
+-- Links: what one is asked to do, and links whose target is read in pieces before they are made.
+use Rattle.std.specs.{Prelude.{◌≡◌, ℕ, List, ◌∷◌, Option, None, Result, Ok, Err, length, ◌⊎◌, ◌-◌, ◌^◌, ◌++◌, [], Some, min}, Io.KnownBytes.{Consumes}}
+use Rattle.cacache_core.specs.{declared.{integrity.{algorithm.Algorithm.TheVariants.{Sha256}, digest.Hash.{Hash}, hasher.Hasher.{Hasher}}, errors.Error.{Error}}, Integrity.{integrity_under}, Hashers.{Holds, algorithm_of}}
 use Rattle.cacache_store.specs.declared.{env.Env.{Env}, store.{log.LogItem.{LogItem}, plain.PlainFile.{PlainFile}}}
-use Rattle.cacache_store.specs.declared.store.answer.Answer.TheVariants as answers
+use Rattle.cacache_calls.specs.{declared.{command.Link.{Link}, reply.Reply.{Reply, TheVariants.{Refused, Stored}}, target.Target.{Target}}, Runs.{Moves, Gains, Gone, Ran, without_message}, Verifying.{ReadsWhole, Gives}, Common.{blank}, Linking.{commit_for, linked_to, with_size, target_at}, State.{State, hashing, to_link, sizing, opening_file}, Storing.{link}, Promises.{Stores}, SingleSteps.{Does, FailsAt}}
+use Rattle.cacache_jobs.specs.Environment.{RunsTimed, HasMoment, KeepsRest}
+use Rattle.cacache_sync.specs.{declared.put.linker.SyncToLinker.{SyncToLinker}, put.KeyedWriters.{Said, options_of}, content.OpenReads.{OpensFile, FailsToOpen}}
 use Rattle.cacache_store.specs.declared.store.step.Step.TheVariants as steps
-use Rattle.cacache_calls.specs.{declared.{reply.Reply.{Reply, TheVariants.{Stored, Refused}}, target.Target.{Target}}, Linking.{commit_for, linked_to, with_size, target_at}, Promises.{Stores}, Runs.{Moves, Gains, Gone, Ran, without_message}, State.{State, sizing, opening_file, hashing, to_link}, Verifying.{Gives}, SingleSteps.{Does, FailsAt}}
-use Rattle.cacache_sync.specs.{declared.put.linker.SyncToLinker.{SyncToLinker}, put.Options.{Said, options_of}, content.OpenReads.{OpensFile, FailsToOpen}}
-use Rattle.cacache_jobs.specs.Environment.{HasMoment, KeepsRest}
+use Rattle.cacache_store.specs.declared.store.answer.Answer.TheVariants as answers
+use Rattle.cacache_calls.specs.declared.command.Command.TheVariants as commands
+
+-- a link to a file; without a key the moment has no effect
+abbrev pub link_to : Option (List ℕ) → List ℕ → ℕ → Link
+link_to key target moment =
+    record { key = key; target = target; moment = moment; options = blank Sha256 }
+
+-- the size of the file was asked, and then it was read whole: the integrity is that of its bytes
+abbrev pub IsOfWhole : List ℕ → List Hash → Moves → Type 0
+IsOfWhole path i moves =
+    (n : ℕ) × (more : Moves) × (moves ≡ (steps.Size path, answers.Length n) ∷ more)
+    × ReadsWhole path (λ bytes. i ≡ integrity_under Sha256 bytes) more
+
+-- a log that is kept gained such moves
+abbrev pub HoldsTarget : List ℕ → List Hash → Option (List LogItem) → Option (List LogItem) → Type 0
+HoldsTarget path i old new = (moves : Moves) × Gains old new moves × IsOfWhole path i moves
+
+-- the log gained a run of such a link, with a moment that the clock was asked for once
+abbrev pub RunsLink :
+    {S C N : Type 0} → (S → Option (List LogItem)) → (C → Option (List ℕ))
+    → Env S C N → Env S C N → List ℕ → Option (List ℕ) → List ℕ → Reply → Type 0
+RunsLink log moments old new cache key target reply =
+    RunsTimed log moments None old new cache
+    (λ moment. commands.Link (link_to key target moment)) reply
+
+-- ---- what reading the rest of a target does
+
+-- a link is made of its target once these bytes were read of it, and no more
+abbrev pub links : Target ℕ → List ℕ → State
+links t bytes = link (commit_for t bytes) t.path
+
+-- the hasher went on to these bytes
+abbrev pub HoldsOn : Hasher → Hasher → List ℕ → Type 0
+HoldsOn old new bytes = Holds new bytes × (algorithm_of new ≡ algorithm_of old)
+
+-- the rest of the target was read, and all its bytes are so many then; or why it wasn't
+abbrev pub ReadsRest :
+    Target ℕ → PlainFile → List ℕ → Hasher → Hasher → Result ℕ Error
+    → Option (List LogItem) → Option (List LogItem) → Type 0
+ReadsRest t file bytes hasher next (Ok n) old new =
+    (all : List ℕ) × HoldsOn hasher next all × (n ≡ length all)
+    × Gone (hashing (to_link t) file bytes) (links t all) old new
+ReadsRest t file bytes hasher next (Err e) old new =
+    Ran (hashing (to_link t) file bytes) (Refused (without_message e)) old new
+
+-- so it was for any target and any bytes that were hashed before, if they are so many
+abbrev pub ReadsOn :
+    ℕ → PlainFile → Hasher → Hasher → Result ℕ Error
+    → Option (List LogItem) → Option (List LogItem) → Type 0
+ReadsOn before file hasher next r old new =
+    (t : Target ℕ) (bytes : List ℕ) → Holds hasher bytes → before ≡ length bytes
+    → ReadsRest t file bytes hasher next r old new
+
+-- so many bytes of the target were hashed, the rest was read, and the link was made
+abbrev pub LinksRest :
+    Target ℕ → Hasher → ℕ → PlainFile → Reply
+    → Option (List LogItem) → Option (List LogItem) → Type 0
+LinksRest t hasher count file reply old new =
+    (bytes : List ℕ)
+    → Holds hasher bytes → algorithm_of hasher ≡ t.options.algorithm
+    → count ≡ length bytes
+    → Ran (hashing (to_link t) file bytes) reply old new
+
+-- ---- links whose target is read in pieces before they are made
 
 -- a target that is to be linked to; if it has no moment, the clock is asked for it
 abbrev pub LinkTarget : Type 0

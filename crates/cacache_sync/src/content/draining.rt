@@ -1,6 +1,6 @@
 //! The rest of a content, which is read to its end in pieces.
 ghost use Rattle.std.specs.Prelude.{IfErr, IfOk};
-ghost use Rattle.cacache_sync.specs.content.Rests.{IsUnread, PassesOn};
+ghost use Rattle.cacache_sync.specs.content.OpenReads.{IsUnread, PassesOn};
 
 use crate::content::reader::SyncReader;
 use cacache_core::errors::{Error, Fault, Result};

@@ -1,6 +1,6 @@
 //! A buffer that is filled from its front, by one read after another.
 ghost use Rattle.std.specs.{Prelude.{◌++◌, ℕ, List, [], Option, IfErr, OnOk, OnErr}, Io.{ReadsAtMost, KnownBytes.{Consumes, ReadConsumes}}};
-ghost use Rattle.cacache_sync.specs.content.{Filling.{GivesPart}, OpenWrites.{IsRetried}, Passed.{passed}};
+ghost use Rattle.cacache_sync.specs.content.{OpenReads.{GivesPart, passed}, OpenWrites.{IsRetried}};
 
 use std::io;
 use std::io::ErrorKind;
@@ -31,7 +31,7 @@ pub(crate) trait Pieces {
 ///
 /// After an error a beginning of `buf` was read, perhaps nothing, and the reader goes on after it. `UnexpectedEof` says
 /// that nothing is left.
-#[tactic(auto, using(crate::proofs::content::Fills::whole_given))]
+#[tactic(auto, using(crate::proofs::content::Rests::whole_given))]
 pub(crate) fn fill<R: Pieces>(reader: &mut R, buf: &mut [u8]) -> io::Result<()>
     ensures bytes { OnOk result (Consumes (R.left reader.old) (R.left reader.new) buf.new) }
     ensures gives { OnOk result (R.gave reader.old reader.new buf.new) }

@@ -1,9 +1,9 @@
 //! Contents that are read in pieces, and checked by what was read.
 ghost use Rattle.std.proofs.Common.{append-nil, append_assoc, subst, sym};
 ghost use Rattle.std.specs.{Prelude.{◌≡◌, ◌++◌, ℕ, List, Some, IsOk, IfOk, IfErr, OnOk, OnErr, length}, Io.{ReadsAtMost, KnownBytes.{Consumes, ReadConsumes}}};
-ghost use Rattle.cacache_core.specs.{declared.integrity.digest.Hash.{Hash}, Integrity.{Meets, strongest, actual}, Refusals.{IsCheckFailure}};
-ghost use Rattle.cacache_store.specs.Handles.{LeftFalls};
-ghost use Rattle.cacache_sync.specs.content.{OpenReads.{HasRead, OpensHash, OpensKey, ReadsMore, ReadsPart}, OpenWrites.{IsRetried}, Passed.{passed}, Rests.{CopiesTo, Finishes}};
+ghost use Rattle.cacache_core.specs.{declared.integrity.digest.Hash.{Hash}, Integrity.{Meets, strongest, actual}, Errors.{IsCheckFailure}};
+ghost use Rattle.cacache_store.specs.Plain.{LeftFalls};
+ghost use Rattle.cacache_sync.specs.content.{OpenReads.{HasRead, OpensHash, OpensKey, ReadsMore, ReadsPart, passed, CopiesTo, Finishes}, OpenWrites.{IsRetried}};
 
 use crate::content::draining::drain;
 use crate::content::filling::{Pieces, fill};

@@ -2,8 +2,8 @@
 ghost use Rattle.std.specs.{Prelude.{◌≡◌, ℕ, List, None, IfOk, IfErr, IsOk, OnOk, OnErr, length}, Io.{WritesAtMost, KnownBytes.{Appends, WriteAppends}}};
 ghost use Rattle.cacache_core.specs.{Hashers.{algorithm_of}, Integrity.{integrity_under}};
 ghost use Rattle.cacache_store.specs.declared.store.answer.Answer.TheVariants.{Done};
-ghost use Rattle.cacache_calls.specs.{declared.reply.Reply.TheVariants.{Stored}, Promises.{Stores}, Runs.{reply_of}, SingleSteps.{Does, FailsAt}, StepPaths.{temp_path as temp_path_of}};
-ghost use Rattle.cacache_sync.specs.content.{Passed.{passed}, OpenWrites.{HasTaken, IsSameWriter, MakesTemp, OpensTemp, OpensNumbered, EndsByCommit, EndsUnkeyed, RemovesTemp, TriesToRemove, given_up, Takes, TakesPart, WholeFails, IsWriteError, IsRetried, make_folder as making_folder, content_commit}};
+ghost use Rattle.cacache_calls.specs.{declared.reply.Reply.TheVariants.{Stored}, Promises.{Stores}, Runs.{reply_of}, SingleSteps.{Does, FailsAt}, Steps.{temp_path as temp_path_of}};
+ghost use Rattle.cacache_sync.specs.content.{OpenReads.{passed}, OpenWrites.{HasTaken, IsSameWriter, MakesTemp, OpensTemp, OpensNumbered, EndsByCommit, EndsUnkeyed, RemovesTemp, TriesToRemove, given_up, Takes, TakesPart, WholeFails, IsWriteError, IsRetried, make_folder as making_folder, content_commit}};
 
 use cacache_calls::answers::done_of;
 use cacache_calls::{Commit, Options, Refusal};
@@ -152,7 +152,7 @@ pub fn abandon<S: Store>(alloc: Global, store: &mut S, writer: Writer<S::Temp>) 
 ///
 /// `IoError` has the fault of that write. Whether the file could be removed isn't reported. Contents and index stay
 /// as they were.
-#[tactic(auto, using(crate::proofs::content::GivenUp::given_up_tries, crate::proofs::content::GivenUp::given_up_earned))]
+#[tactic(auto, using(crate::proofs::content::Writes::given_up_tries, crate::proofs::content::Writes::given_up_earned))]
 pub fn write_or_abandon<S: Store>(
     alloc: Global,
     store: &mut S,

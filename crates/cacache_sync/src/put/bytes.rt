@@ -4,7 +4,7 @@ ghost use Rattle.cacache_core.specs.{declared.integrity.algorithm.Algorithm.TheV
 ghost use Rattle.cacache_calls.specs.declared.command.Command.TheVariants as commands;
 ghost use Rattle.cacache_calls.specs.{declared.reply.Reply.TheVariants.{Stored}, Runs.{reply_of}};
 ghost use Rattle.cacache_jobs.specs.Environment.{Steps, RunsNumbered, RunsPut};
-ghost use Rattle.cacache_sync.specs.put.Puts.{keyed_put as keyed_put_of, put_of, unkeyed_put as unkeyed_put_of};
+ghost use Rattle.cacache_sync.specs.put.KeyedWriters.{keyed_put as keyed_put_of, put_of, unkeyed_put as unkeyed_put_of};
 
 use cacache_calls::{Command, Options, Put};
 use cacache_core::bytes::Bytes;

@@ -3,7 +3,7 @@ ghost use Rattle.std.specs.Prelude.{◌≡◌, IfOk};
 ghost use Rattle.cacache_calls.specs.declared.command.Command.TheVariants as commands;
 ghost use Rattle.cacache_calls.specs.{declared.reply.Reply.TheVariants.{Stored}, Inserting.{given_or, no_integrity}, Runs.{reply_of}};
 ghost use Rattle.cacache_jobs.specs.Environment.{RunsTimed};
-ghost use Rattle.cacache_sync.specs.put.Puts.{insert_of};
+ghost use Rattle.cacache_sync.specs.put.KeyedWriters.{insert_of};
 
 use crate::put::opts::WriteOpts;
 use cacache_calls::{Command, Insert};

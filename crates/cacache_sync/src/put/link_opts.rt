@@ -1,6 +1,6 @@
 //! Links that are opened with options.
 ghost use Rattle.std.specs.Prelude.{None, Some};
-ghost use Rattle.cacache_sync.specs.put.{OpenLinkers.{BeginsLink, OpensLink, asks_file, linked_by}, Options.{options_of}};
+ghost use Rattle.cacache_sync.specs.put.{OpenLinkers.{BeginsLink, OpensLink, asks_file, linked_by}, KeyedWriters.{options_of}};
 ghost use Rattle.cacache_calls.specs.Linking.{linked_to};
 
 use crate::put::linker::{SyncToLinker, new_target, open_target};

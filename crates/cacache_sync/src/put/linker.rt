@@ -1,8 +1,8 @@
 //! Links whose target is read in pieces before they are made.
 ghost use Rattle.std.specs.Prelude.{◌≡◌, ℕ, List, None, Some, IfOk};
 ghost use Rattle.cacache_core.specs.declared.integrity.algorithm.Algorithm.TheVariants.{Sha256};
-ghost use Rattle.cacache_calls.specs.{declared.reply.Reply.TheVariants.{Stored}, Runs.{reply_of}, Linking.{linked_to}, Blank.{blank}};
-ghost use Rattle.cacache_sync.specs.put.{OpenLinkers.{BeginsLink, CommitsLink, HasHashed, OpensLink, OpensLinker, OpensSized, OpensTarget, OpensWithSize, StoresWhole, asks_file, asks_size, linked_by}, Options.{nothing_said, saying}, Rest.{LinksRest}};
+ghost use Rattle.cacache_calls.specs.{declared.reply.Reply.TheVariants.{Stored}, Runs.{reply_of}, Linking.{linked_to}, Common.{blank}};
+ghost use Rattle.cacache_sync.specs.put.{OpenLinkers.{BeginsLink, CommitsLink, HasHashed, OpensLink, OpensLinker, OpensSized, OpensTarget, OpensWithSize, StoresWhole, asks_file, asks_size, linked_by, LinksRest}, KeyedWriters.{nothing_said, saying}};
 
 mod reading;
 

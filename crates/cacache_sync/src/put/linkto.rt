@@ -3,7 +3,7 @@ ghost use Rattle.std.specs.Prelude.{None, Some, IfOk};
 ghost use Rattle.cacache_core.specs.declared.integrity.algorithm.Algorithm.TheVariants.{Sha256};
 ghost use Rattle.cacache_calls.specs.declared.command.Command.TheVariants as commands;
 ghost use Rattle.cacache_calls.specs.{declared.reply.Reply.TheVariants.{Stored}, Linking.{based}, Runs.{reply_of}};
-ghost use Rattle.cacache_sync.specs.put.LinkCalls.{link_to, HoldsTarget, RunsLink};
+ghost use Rattle.cacache_sync.specs.put.OpenLinkers.{link_to, HoldsTarget, RunsLink};
 ghost use Rattle.cacache_jobs.specs.Environment.{Calls};
 
 use cacache_calls::{Command, Link, Options};

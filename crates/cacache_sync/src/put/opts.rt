@@ -3,7 +3,7 @@ ghost use Rattle.std.specs.Prelude.{◌≡◌, None, Some, IfOk, option_map};
 ghost use Rattle.serde_json.specs.View.{view};
 ghost use Rattle.cacache_core.specs.Integrity.{IsIntegrity};
 ghost use Rattle.cacache_entry.specs.FittingEntries.{EachIsByte, IsJson};
-ghost use Rattle.cacache_sync.specs.put.{Options.{nothing_said, options_of}, KeyedWriters.{OpensKeyed}};
+ghost use Rattle.cacache_sync.specs.put.KeyedWriters.{nothing_said, options_of, OpensKeyed};
 
 use crate::put::writer::{SyncWriter, open_writer};
 use cacache_calls::{Json, Options, look_through, look_through_bytes};
@@ -35,7 +35,7 @@ impl Model for WriteOpts {
     ghost use Rattle.std.specs.Prelude.{option_map};
     ghost use Rattle.std.specs.Coded.{codes};
     ghost use Rattle.cacache_calls.specs.JsonCode.{data_code};
-    ghost use Rattle.cacache_sync.specs.put.Options.{Said};
+    ghost use Rattle.cacache_sync.specs.put.KeyedWriters.{Said};
 
     ghost Value = { Said };
 

@@ -1,5 +1,5 @@
 //! The rest of a target, which a commit reads.
-ghost use Rattle.cacache_sync.specs.put.Rest.{ReadsOn};
+ghost use Rattle.cacache_sync.specs.put.OpenLinkers.{ReadsOn};
 
 use cacache_calls::answers::{Got, got_of};
 use cacache_core::errors::{Error, Result};

@@ -1,7 +1,7 @@
 //! Contents that are written in pieces, with all options at their commit.
 ghost use Rattle.std.specs.{Prelude.{◌≡◌, ℕ, List, Some, IfOk, IfErr, IsOk, OnOk, OnErr, length}, Io.{WritesAtMost, KnownBytes.{Appends, WriteAppends}}};
 ghost use Rattle.cacache_calls.specs.{declared.reply.Reply.TheVariants.{Stored}, Promises.{Stores}, Runs.{reply_of}};
-ghost use Rattle.cacache_sync.specs.{content.{Passed.{passed}, OpenWrites.{HasTaken, IsSameWriter, RemovesTemp, TriesToRemove, Takes, TakesPart, WholeFails, IsWriteError, IsRetried}}, put.{Options.{nothing_said}, KeyedWriters.{OpensAt, OpensKeyed, CommitsWriter, writer_commit}}};
+ghost use Rattle.cacache_sync.specs.{content.{OpenReads.{passed}, OpenWrites.{HasTaken, IsSameWriter, RemovesTemp, TriesToRemove, Takes, TakesPart, WholeFails, IsWriteError, IsRetried}}, put.KeyedWriters.{nothing_said, OpensAt, OpensKeyed, CommitsWriter, writer_commit}};
 
 use crate::content::writer::{Writer, abandon, commit, open, write_or_abandon};
 use crate::put::opts::WriteOpts;

@@ -13,7 +13,7 @@ use Rattle.cacache_calls.specs.contracts.data.Json as Json
 use Rattle.cacache_calls.specs.contracts.reply.Found as Found
 use Rattle.cacache_calls.specs.contracts.reply.Items as Items
 use Rattle.cacache_calls.specs.contracts.reply.Reply as Reply
-use Rattle.cacache_threads.proofs.send.{Core.{crosses_core}, Entry.{Metadata-send, Metadata-sync}, Json.{Value-send, Value-sync}}
+use Rattle.cacache_threads.proofs.send.Values.{crosses_core, Metadata-send, Metadata-sync, Value-send, Value-sync}
 
 pub Json-send : IsSend (Json.the_field).row
 Json-send = search (Value-send, crosses_core, crosses, sendable) depth 30 fits 20000
@@ -86,5 +86,3 @@ Reply-send = search (Found-send, Items-send, crosses_core, crosses, sendable) de
 
 pub Reply-sync : IsSync (Reply.the_field).row
 Reply-sync = search (Found-sync, Items-sync, crosses_core, crosses, sendable) depth 30 fits 20000
-
-pub ruleset crosses_commands = (Json-send, Json-sync, Options-send, Options-sync, Put-send, Put-sync, Link-send, Link-sync, Insert-send, Insert-sync, Delete-send, Delete-sync, Source-send, Source-sync, Export-send, Export-sync, Command-send, Command-sync, Found-send, Found-sync, Items-send, Items-sync, Reply-send, Reply-sync)

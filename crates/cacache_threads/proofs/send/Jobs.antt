@@ -18,7 +18,7 @@ use Rattle.cacache_calls.specs.contracts.carried.Commit as Commit
 use Rattle.cacache_jobs.specs.contracts.syncing.Goal as Goal
 use Rattle.cacache_jobs.specs.contracts.syncing.Syncing as Syncing
 use Rattle.cacache_calls.specs.contracts.target.Target as Target
-use Rattle.cacache_threads.proofs.send.{Steps.{Step-send}, Commands.{Export-send, Options-send, Reply-send}, Core.{crosses_core}, Walks.{Visit-send, Walk-send}}
+use Rattle.cacache_threads.proofs.send.{Values.{Step-send, crosses_core}, Commands.{Export-send, Options-send, Reply-send}, Walks.{Visit-send, Walk-send}}
 
 Hasher-send : IsSend (Hasher.the_field).row
 Hasher-send = search (crosses, sendable) depth 30 fits 20000

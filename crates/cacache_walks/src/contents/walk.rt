@@ -2,7 +2,7 @@
 ghost use Rattle.std.specs.Prelude.{◌≡◌, ◌≢◌, ◌++◌, ◌<◌, [], List, IfOk, OnOk, IfErr, Some};
 ghost use Rattle.cacache_core.specs.declared.errors.Fault.TheVariants.{NotFound};
 ghost use Rattle.cacache_store.specs.{declared.store.answer.Answer.TheVariants.{Failed}, Plain.{PlainAnswer}};
-ghost use Rattle.cacache_walks.specs.{Reading.{Folder, IsErrorOf, file_paths}, Listing.{ShowsBelow, StopsAt, StopsBelow}, WalkSteps.{AnswerShows, AnsweredBy, GoesOnBy, WalkStands, StopsIn, StopsVisit, steps_left}};
+ghost use Rattle.cacache_walks.specs.{Reading.{Folder, IsErrorOf, file_paths}, Listing.{ShowsBelow, StopsAt, StopsBelow}, WalkStates.{AnswerShows, AnsweredBy, GoesOnBy, WalkStands, StopsIn, StopsVisit, steps_left}};
 
 use crate::walk::Walk;
 use cacache_calls::answers::names_of;

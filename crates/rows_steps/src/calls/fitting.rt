@@ -1,6 +1,6 @@
 //! Answers that fit their step, each with a copy for a log. Of a file they know how much is left, and of its bytes nothing.
 ghost use Rattle.std.specs.Prelude.{◌≡◌, ◌≤◌, false, None, IfOk};
-ghost use Rattle.cacache_store.specs.Fits.{Fits, is_no_memory};
+ghost use Rattle.cacache_store.specs.Plain.{Fits, is_no_memory};
 
 use crate::calls::words::{bytes_of, fault_of};
 use cacache_core::bytes::Bytes;

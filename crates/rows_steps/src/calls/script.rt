@@ -1,6 +1,6 @@
 //! A store that answers by a script, and keeps its log.
 ghost use Rattle.std.specs.Prelude.{◌≡◌, ◌∷◌, ◌++◌, ◌<◌, [], false, Some, IfSome, OnOk, vec_len, vec_capacity};
-ghost use Rattle.cacache_store.specs.Fits.{Fits, Logs, is_no_memory};
+ghost use Rattle.cacache_store.specs.Plain.{Fits, Logs, is_no_memory};
 
 use crate::calls::fitting::{Told, fitting};
 use crate::calls::replies::shown_reply;

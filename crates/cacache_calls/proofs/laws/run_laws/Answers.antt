@@ -1,4 +1,4 @@
-use Rattle.cacache_calls.proofs.{Effort.{falls}, Memory.{no_memory_after, wants_until_over}}
+use Rattle.cacache_calls.proofs.{Effort.{falls}, Going.{no_memory_after, wants_until_over}}
 use Rattle.cacache_calls.proofs.laws.run_laws.Goals as goal
 
 pub returns-clause-falls : goal.returns-clause-falls

@@ -1,7 +1,7 @@
 use Rattle.std.proofs.{Common.{sym, subst}, lemmas.Str.{IsUtf8-string_bytes}}
 use Rattle.serde_json.specs.View.{view, members_view}
 use Rattle.cacache_entry.specs.FittingEntries.{IsJson}
-use Rattle.cacache_calls.{specs.Known.{NamedJson}, proofs.Telling.{of_null, of_boolean, of_number, of_string, of_array, of_object}}
+use Rattle.cacache_calls.{specs.JsonCode.{NamedJson}, proofs.Telling.{of_null, of_boolean, of_number, of_string, of_array, of_object}}
 use Rattle.cacache_calls.proofs.values.+json.Goals as goal
 
 pub look_through-returns-in-Null : goal.look_through-returns-in-Null

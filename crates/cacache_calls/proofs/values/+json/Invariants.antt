@@ -1,6 +1,6 @@
 use Rattle.std.proofs.Common.{drop}
 use Rattle.serde_json.specs.View.{items_view, members_view}
-use Rattle.cacache_calls.specs.Known.{AllJson, NamedJson}
+use Rattle.cacache_calls.specs.JsonCode.{AllJson, NamedJson}
 use Rattle.cacache_calls.proofs.values.+json.Given as goal
 
 abbrev pub invariant-look_through_items-loop-item : goal.invariant-look_through_items-loop-item

@@ -1,6 +1,6 @@
 //! Makes integrities from hex digits, and from two other integrities.
 ghost use Rattle.std.specs.{Prelude.{◌≡◌, Ok, IfOk, IfErr, OnOk}, List.{fold}};
-ghost use Rattle.cacache_core.specs.{Joining.{with_hash, read_hex, joined_hashes}, Refusals.{IsReadFailure}};
+ghost use Rattle.cacache_core.specs.{Matching.{with_hash, read_hex, joined_hashes}, Errors.{IsReadFailure}};
 
 use crate::errors::{Error, IntegrityFault, Result};
 use crate::integrity::algorithm::Algorithm;
@@ -32,7 +32,7 @@ impl Integrity {
     /// by first occurrence: this integrity's, then those that only the other has. So the content
     /// address is this integrity's if the other's algorithm isn't stronger. `OutOfMemory` is the
     /// only error.
-    #[tactic(auto, using(crate::proofs::Joining::joined_is_integrity, crate::proofs::Joining::joined_once))]
+    #[tactic(auto, using(crate::proofs::Order::joined_is_integrity, crate::proofs::Order::joined_once))]
     pub fn concat(&self, alloc: Global, other: &Integrity) -> Result<Integrity>
         ensures ok { IfOk result (λ i. i ≡ joined_hashes self.now other.now) }
         ensures err { IfErr result (λ e. e ≡ Error.OutOfMemory) }

@@ -1,7 +1,7 @@
 //! The order of integrities, and the data that they feed to a map's hasher.
 ghost use Rattle.std.{specs.Prelude.{Some}, proofs.Common.{refl}};
 ghost use Rattle.std.specs.Hash as fed;
-ghost use Rattle.cacache_core.specs.{Comparing.{hashes_cmp, hashes_cmp-po, hashes_cmp-total, hashes_cmp-ties, hash_fed}, Same.{same_hashes-Decides}};
+ghost use Rattle.cacache_core.specs.Comparing.{hashes_cmp, hashes_cmp-po, hashes_cmp-total, hashes_cmp-ties, hash_fed, same_hashes-Decides};
 
 use crate::integrity::whole::Integrity;
 use std::cmp::Ordering;

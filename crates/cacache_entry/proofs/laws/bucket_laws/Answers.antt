@@ -1,4 +1,4 @@
-use Rattle.cacache_entry.proofs.{Lines.{empty_holds_nothing, lines_append, torn_texts_read_as_nothing, torn_lines_add_nothing, torn_lines_hurt_no_other}, Pieces.{entries_split}}
+use Rattle.cacache_entry.proofs.{Lookups.{empty_holds_nothing, lines_append, torn_texts_read_as_nothing, torn_lines_add_nothing, torn_lines_hurt_no_other}, Pieces.{entries_split}}
 use Rattle.cacache_entry.proofs.laws.bucket_laws.Goals as goal
 
 pub returns-clause-empty : goal.returns-clause-empty

@@ -1,5 +1,5 @@
 use Rattle.std.{proofs.{Common.{ℕ, List, option_map, ap, ◌∙◌}, lemmas.Slice.Eq.{slice_eq-Decides}}, specs.{Borrow.{Bor}, Cmp.{unsigned_Decides}}}
-use Rattle.cacache_entry.{specs.EntryParts.{texts_then, numbers_then}, proofs.TextParts.{bare-text}}
+use Rattle.cacache_entry.{specs.Entry.{texts_then, numbers_then}, proofs.EntryTexts.{bare-text}}
 use Rattle.cacache_entry.proofs.parts.parts_of.Goals as goal
 
 pub returns-then-eq-clause-text : goal.returns-then-eq-clause-text

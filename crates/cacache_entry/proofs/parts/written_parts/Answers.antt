@@ -1,5 +1,5 @@
 use Rattle.std.proofs.{Common.{◌≡◌, ℕ, List, ◌∷◌, ◌++◌, sym, ap, ap₂, ◌∙◌}, lemmas.List.{take-append-drop}}
-use Rattle.cacache_core.specs.Digests.{sha256_hex}
+use Rattle.cacache_core.specs.Integrity.{sha256_hex}
 use Rattle.cacache_entry.proofs.parts.written_parts.Goals as goal
 
 -- the digits are those of the text's digest, and the text is that of the parts

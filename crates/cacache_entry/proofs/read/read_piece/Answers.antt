@@ -1,6 +1,6 @@
 use Rattle.std.proofs.{Common.{◌≡◌, ◌+◌, [], ◌∷◌, subst, drop, take, sym, ap, ◌∙◌, arith}, lemmas.{Str.{lead_after_ascii}, Bool.{true≢false}}}
 use Rattle.std.specs.Prelude.{MatchOption, IfOk, option_map}
-use Rattle.cacache_core.specs.Digests.{sha256_hex}
+use Rattle.cacache_core.specs.Integrity.{sha256_hex}
 use Rattle.cacache_entry.{specs.{Bucket.{cut, CutsAt}, View.{entry_view}}, proofs.Pieces.{entry_of_piece-not_utf8, entry_of_piece-more, entry_of_piece-wrong, entry_of_piece-read}}
 use Rattle.cacache_entry.proofs.read.read_piece.Goals as goal
 

@@ -1,5 +1,5 @@
 use Rattle.std.proofs.Common.{◌≡◌, ◌≤◌, ◌+◌, length}
-use Rattle.cacache_entry.specs.{Bucket.{entries_of}, Latest.{latest, pieces_read}}
+use Rattle.cacache_entry.specs.Bucket.{entries_of, latest, pieces_read}
 use Rattle.cacache_entry.proofs.search.latest.Given as goal
 
 abbrev pub invariant-loop-at : goal.invariant-loop-at

@@ -1,7 +1,7 @@
 use Rattle.std.proofs.{Common.{◌≡◌, ℕ, ◌-◌, List, ◌++◌, length, take, drop, ap, ap₂, ◌∙◌, arith, length-drop, drop-drop}, lemmas.List.{take_all}}
 use Rattle.hex.specs.Hex.{encode_lower}
 use Rattle.sha2.specs.Sha256.{sha256}
-use Rattle.cacache_core.specs.Digests.{sha256_hex}
+use Rattle.cacache_core.specs.Integrity.{sha256_hex}
 use Rattle.cacache_entry.proofs.write.fill_digest.Goals as goal
 
 pub returns : goal.returns

@@ -1,7 +1,7 @@
 use Rattle.std.proofs.Common.{rules, ◌≡◌, [], ◌∷◌, ℕ, List, ◌++◌, Option, option_map, Vec, Global, sym, ap, ap₂, ◌∙◌}
 use Rattle.json.specs.{Print.{print}, Token.{Token, begin_array}}
 use Rattle.serde_json.specs.Written.{compact_text}
-use Rattle.cacache_entry.{specs.{Entry.{bytes_or_null}, Tokens.{byte_tokens}}, proofs.{Appends.{appended}, TextParts.{print-bytes}}}
+use Rattle.cacache_entry.{specs.{Entry.{bytes_or_null}, Tokens.{byte_tokens}}, proofs.{Pieces.{appended}, EntryTexts.{print-bytes}}}
 use Rattle.cacache_entry.proofs.write.push_bytes.Goals as goal
 
 abbrev text_of_bytes : Option (Vec ℕ Global) → List ℕ

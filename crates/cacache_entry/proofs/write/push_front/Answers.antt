@@ -1,7 +1,7 @@
 use Rattle.std.proofs.Common.{ℕ, List, ◌++◌, codes, decimal, ap, ap₂, ◌∙◌}
 use Rattle.json.specs.Print.{quoted}
 use Rattle.serde_json.specs.Written.{compact_text}
-use Rattle.cacache_entry.{specs.{Entry.{text_or_null}, View.{entry_view}}, proofs.{Appends.{appended}, TextParts.{front-pushed}}}
+use Rattle.cacache_entry.{specs.{Entry.{text_or_null}, View.{entry_view}}, proofs.{Pieces.{appended}, EntryTexts.{front-pushed}}}
 use Rattle.cacache_entry.proofs.write.push_front.Goals as goal
 
 pub returns : goal.returns

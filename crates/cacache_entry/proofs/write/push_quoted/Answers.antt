@@ -1,6 +1,6 @@
 use Rattle.std.proofs.Common.{rules, ◌≡◌, [], ◌∷◌, ℕ, List, ◌++◌, ap, ap₂, ◌∙◌}
 use Rattle.json.specs.{Print.{print}, Token.{Token, string}}
-use Rattle.cacache_entry.proofs.{Appends.{appended}, TextParts.{print-string}}
+use Rattle.cacache_entry.proofs.{Pieces.{appended}, EntryTexts.{print-string}}
 use Rattle.cacache_entry.proofs.write.push_quoted.Goals as goal
 
 pub returns : goal.returns

@@ -1,6 +1,6 @@
 use Rattle.std.proofs.Common.{ℕ, List, [], ◌∷◌, ◌++◌, codes, ap, ◌∙◌}
 use Rattle.serde_json.specs.Written.{compact_text}
-use Rattle.cacache_entry.{specs.{Entry.{bytes_or_null}, View.{entry_view}}, proofs.TextParts.{text-pushed}}
+use Rattle.cacache_entry.{specs.{Entry.{bytes_or_null}, View.{entry_view}}, proofs.EntryTexts.{text-pushed}}
 use Rattle.cacache_entry.proofs.write.push_text.Goals as goal
 
 pub returns-clause-text : goal.returns-clause-text

@@ -1,6 +1,6 @@
 use Rattle.std.{proofs.Common.{◌≡◌, ℕ, List, ◌++◌, ap, ◌∙◌, subst}, specs.Prelude.{IsUtf8, Some}}
 use Rattle.serde_json.specs.{Read.{read}, View.{view}, Written.{compact_text}}
-use Rattle.cacache_entry.proofs.{Appends.{if_ok, appended}, WellRead.{IsJson-read}}
+use Rattle.cacache_entry.proofs.{Pieces.{if_ok, appended}, WellRead.{IsJson-read}}
 use Rattle.cacache_entry.proofs.write.push_value.Goals as goal
 
 pub returns-in_ok-to_vec-in_default : goal.returns-in_ok-to_vec-in_default

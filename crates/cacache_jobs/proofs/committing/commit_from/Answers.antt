@@ -1,4 +1,4 @@
-use Rattle.cacache_calls.{specs.Storing.{persist}, proofs.{ReplyKinds.{stores_only}, Promises.{runs_keep}}}
+use Rattle.cacache_calls.{specs.Storing.{persist}, proofs.Promises.{stores_only, runs_keep}}
 use Rattle.cacache_jobs.proofs.{WrittenCommits.{moved_promise}, Running.{memory_lost}}
 use Rattle.cacache_jobs.proofs.committing.commit_from.Goals as goal
 

@@ -1,5 +1,5 @@
 use Rattle.std.proofs.Common.{[], refl}
-use Rattle.cacache_jobs.proofs.RefusedSteps.{ends_refused}
+use Rattle.cacache_jobs.proofs.Refusing.{ends_refused}
 use Rattle.cacache_jobs.proofs.hashing.after_open.Goals as goal
 
 pub returns-in-Ok : goal.returns-in-Ok

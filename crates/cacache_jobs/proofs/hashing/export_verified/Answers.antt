@@ -1,5 +1,5 @@
 use Rattle.std.proofs.Common.{◌≡◌, true, false}
-use Rattle.cacache_jobs.proofs.Verified.{verified_met, verified_unmet}
+use Rattle.cacache_jobs.proofs.Checking.{verified_met, verified_unmet}
 use Rattle.cacache_jobs.proofs.hashing.export_verified.Goals as goal
 
 pub returns-in-Ok : goal.returns-in-Ok

@@ -1,5 +1,5 @@
 use Rattle.std.proofs.Common.{◌≡◌, ◌==◌, ◌++◌, false, length, length-append, refl, arith}
-use Rattle.cacache_jobs.proofs.Hashed.{more_read}
+use Rattle.cacache_jobs.proofs.Checking.{more_read}
 use Rattle.cacache_jobs.proofs.hashing.hash_piece.Goals as goal
 
 pub returns : goal.returns

@@ -1,4 +1,4 @@
-use Rattle.cacache_calls.{specs.Storing.{link}, proofs.{ReplyKinds.{stores_only}, Promises.{runs_keep}}}
+use Rattle.cacache_calls.{specs.Storing.{link}, proofs.Promises.{stores_only, runs_keep}}
 use Rattle.cacache_jobs.proofs.Running.{memory_lost}
 use Rattle.cacache_jobs.proofs.resuming.link_from.Goals as goal
 

@@ -1,6 +1,6 @@
 use Rattle.std.proofs.Common.{◌≡◌, ℕ, List, subst}
 use Rattle.cacache_calls.{specs.{State.{Site}, Table.{opening}}, proofs.Promises.{calls_answer}}
-use Rattle.cacache_jobs.{specs.{Sites.{site_of}, JobStates.{Leads}}, proofs.{Running.{memory_lost}, Calling.{finds_bytes, reads_first}}}
+use Rattle.cacache_jobs.{specs.JobStates.{site_of, Leads}, proofs.Running.{memory_lost, finds_bytes, reads_first}}
 use Rattle.cacache_jobs.proofs.run.call.Goals as goal
 
 pub finish-requires : goal.finish-requires

@@ -1,4 +1,4 @@
-use Rattle.cacache_loss.proofs.CommitFolders.{own_folders_are_enough, five_for_contents, four_for_buckets}
+use Rattle.cacache_loss.proofs.SyncedFolders.{own_folders_are_enough, five_for_contents, four_for_buckets}
 use Rattle.cacache_loss.proofs.laws.folder_laws.Goals as goal
 
 pub returns-clause-folders : goal.returns-clause-folders

@@ -1,4 +1,4 @@
-use Rattle.cacache_loss.proofs.{Contents.{contents_survive}, Buckets.{buckets_survive, entries_survive}, Commits.{commits_survive, found_survive, lookups_survive}, SparedTemps.{spared_temps_are_left}}
+use Rattle.cacache_loss.proofs.{Contents.{contents_survive}, Buckets.{buckets_survive, entries_survive}, Commits.{commits_survive, found_survive, lookups_survive}, KeptPaths.{spared_temps_are_left}}
 use Rattle.cacache_loss.proofs.laws.loss_laws.Goals as goal
 
 pub returns-clause-contents : goal.returns-clause-contents

@@ -1,4 +1,4 @@
-use Rattle.cacache_loss.proofs.LostValues.{contents_are_held, entries_are_held}
+use Rattle.cacache_loss.proofs.LostTrees.{contents_are_held, entries_are_held}
 use Rattle.cacache_loss.proofs.laws.value_laws.Goals as goal
 
 pub returns-clause-contents : goal.returns-clause-contents

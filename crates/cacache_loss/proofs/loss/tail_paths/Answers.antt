@@ -1,6 +1,6 @@
 use Rattle.std.{proofs.Common.{◌∙◌, ℕ, List, Some, sym, ap, subst₂}, specs.Result.{result_ok}}
 use Rattle.std.specs.BTreeMap as btree
-use Rattle.cacache_core.specs.PathNames.{Names, names_of}
+use Rattle.cacache_core.specs.Paths.{Names, names_of}
 use Rattle.cacache_disk.specs.Tree.{names_cmp}
 use Rattle.cacache_loss.proofs.ChosenLosses.{tails_more, tails_known}
 use Rattle.cacache_loss.proofs.loss.tail_paths.Goals as goal

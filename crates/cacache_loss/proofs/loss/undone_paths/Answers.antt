@@ -1,5 +1,5 @@
 use Rattle.std.{proofs.Common.{◌∙◌, ℕ, List, sym, ap}, specs.Result.{result_ok}}
-use Rattle.cacache_core.specs.PathNames.{names_of}
+use Rattle.cacache_core.specs.Paths.{names_of}
 use Rattle.cacache_loss.proofs.ChosenLosses.{undone_more}
 use Rattle.cacache_loss.proofs.loss.undone_paths.Goals as goal
 

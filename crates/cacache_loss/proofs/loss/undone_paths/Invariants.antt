@@ -1,5 +1,5 @@
 use Rattle.std.{proofs.Common.{◌≡◌, take}, specs.{BTreeSet.{contains}, List.{list_any}}}
-use Rattle.cacache_core.specs.PathNames.{Names, names_of}
+use Rattle.cacache_core.specs.Paths.{Names, names_of}
 use Rattle.cacache_disk.specs.Tree.{names_cmp}
 use Rattle.cacache_loss.specs.Fixing.{is_at}
 use Rattle.cacache_loss.proofs.loss.undone_paths.Given as goal

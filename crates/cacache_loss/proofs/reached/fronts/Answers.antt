@@ -1,5 +1,5 @@
 use Rattle.std.proofs.Common.{◌∙◌, ◌++◌, ◌+◌, List, take, drop, ap, arith}
-use Rattle.cacache_core.specs.PathNames.{Names}
+use Rattle.cacache_core.specs.Paths.{Names}
 use Rattle.cacache_loss.{specs.Reached.{fronts}, proofs.PathMaps.{fronts_more}}
 use Rattle.cacache_loss.proofs.reached.fronts.Goals as goal
 

@@ -1,5 +1,5 @@
 use Rattle.std.{proofs.{Common.{◌≡◌, ◌∙◌, refl, sym, rules}, lemmas.Map.Entries.{filter_from_retain_pairs}}, specs.Prelude.{not}}
-use Rattle.cacache_core.specs.PathNames.{names_of}
+use Rattle.cacache_core.specs.Paths.{names_of}
 use Rattle.cacache_disk.specs.Tree.{is_child}
 use Rattle.cacache_loss.proofs.PathMaps.{all_forgot}
 use Rattle.cacache_loss.proofs.syncs.folder_synced.Goals as goal

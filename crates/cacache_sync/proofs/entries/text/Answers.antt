@@ -1,6 +1,6 @@
 -- The text is cut off where it begins in the line.
 use Rattle.std.proofs.Common.{◌≤◌, List, ℕ, length, drop, subst, sym, ap, ◌∙◌}
-use Rattle.cacache_sync.proofs.Texts.{text_in_line, line_reaches_text}
+use Rattle.cacache_sync.proofs.Lookups.{text_in_line, line_reaches_text}
 use Rattle.cacache_sync.proofs.entries.text.Goals as goal
 
 pub split_off-requires : goal.split_off-requires

@@ -1,7 +1,7 @@
 use Rattle.std.{proofs.Common.{refl, subst}, specs.Prelude.{IfOk}}
 use Rattle.cacache_calls.specs.declared.{command.How.TheVariants.{Copy}, reply.Reply.TheVariants.{Copied}}
-use Rattle.cacache_jobs.specs.{ReadFirst.{Verified}, Sites.{site_of}}
-use Rattle.cacache_sync.proofs.ExportReplies.{copies_verified, says_count}
+use Rattle.cacache_jobs.specs.{ReadFirst.{Verified}, JobStates.{site_of}}
+use Rattle.cacache_sync.proofs.Exports.{copies_verified, says_count}
 use Rattle.cacache_sync.proofs.exporting.copy_content.Goals as goal
 
 pub copied-requires : goal.copied-requires

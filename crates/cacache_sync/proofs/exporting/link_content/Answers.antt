@@ -1,7 +1,7 @@
 use Rattle.std.{proofs.Common.{subst}, specs.Prelude.{IfOk}}
 use Rattle.cacache_calls.specs.declared.reply.Reply.TheVariants.{Done}
-use Rattle.cacache_jobs.specs.{ReadFirst.{Verified}, Sites.{site_of}}
-use Rattle.cacache_sync.proofs.ExportReplies.{links_verified, says_nothing}
+use Rattle.cacache_jobs.specs.{ReadFirst.{Verified}, JobStates.{site_of}}
+use Rattle.cacache_sync.proofs.Exports.{links_verified, says_nothing}
 use Rattle.cacache_sync.proofs.exporting.link_content.Goals as goal
 
 pub done-requires : goal.done-requires

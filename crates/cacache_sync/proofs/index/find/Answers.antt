@@ -1,6 +1,6 @@
 use Rattle.std.proofs.Common.{subst, sym}
 use Rattle.cacache_calls.specs.{declared.{command.Command.TheVariants.{Find}, reply.Reply.{Reply}}, Runs.{Ran}, Table.{opening}}
-use Rattle.cacache_jobs.specs.Sites.{site_of}
+use Rattle.cacache_jobs.specs.JobStates.{site_of}
 use Rattle.cacache_sync.{specs.Lookups.{LooksUp}, proofs.Lookups.{looks_up}}
 use Rattle.cacache_sync.proofs.index.find.Goals as goal
 

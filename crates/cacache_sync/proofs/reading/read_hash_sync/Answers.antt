@@ -1,4 +1,4 @@
-use Rattle.cacache_calls.proofs.ReplyKinds.{meeting_only}
+use Rattle.cacache_calls.proofs.Promises.{meeting_only}
 use Rattle.cacache_sync.proofs.reading.read_hash_sync.Goals as goal
 
 pub read-requires : goal.read-requires

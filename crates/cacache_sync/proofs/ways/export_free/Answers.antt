@@ -1,5 +1,5 @@
 use Rattle.std.proofs.Common.{rules}
-use Rattle.cacache_sync.{specs.Exports.{named_source}, proofs.{ExportWays.{linked, copied_first, copied_second}, ways.export_free.Goals.{then-eq+else-not-is_closed, else-eq}}}
+use Rattle.cacache_sync.{specs.Exports.{named_source}, proofs.{Exports.{linked, copied_first, copied_second}, ways.export_free.Goals.{then-eq+else-not-is_closed, else-eq}}}
 use Rattle.cacache_sync.proofs.ways.export_free.Goals as goal
 
 pub returns-then-not-is_closed-clause-tries : goal.returns-then-not-is_closed-clause-tries

@@ -1,8 +1,8 @@
 //! The reads of a linker, which hash what they read.
 ghost use Rattle.std.proofs.Common.{append-nil, append_assoc, refl, subst, sym, ◌∙◌};
 ghost use Rattle.std.specs.{Prelude.{◌≡◌, ◌++◌, ℕ, List, IfErr, OnOk, OnErr, length}, Io.{ReadsAtMost, KnownBytes.{Consumes, ReadConsumes}}};
-ghost use Rattle.cacache_store.specs.Handles.{LeftFalls};
-ghost use Rattle.cacache_sync.specs.{content.{OpenWrites.{IsRetried}, Passed.{passed}}, put.OpenLinkers.{HasHashed, HashesMore, HashesPart}};
+ghost use Rattle.cacache_store.specs.Plain.{LeftFalls};
+ghost use Rattle.cacache_sync.specs.{content.{OpenWrites.{IsRetried}, OpenReads.{passed}}, put.OpenLinkers.{HasHashed, HashesMore, HashesPart}};
 
 use crate::content::filling::{Pieces, fill};
 use crate::put::linker::SyncToLinker;

@@ -1,5 +1,5 @@
 use denote.Param.Send.{sendable}
-use Rattle.cacache_threads.proofs.send.{Commands.{Command-send, Command-sync, Reply-send, Reply-sync}, Json.{Value-send, Value-sync}}
+use Rattle.cacache_threads.proofs.send.{Commands.{Command-send, Command-sync, Reply-send, Reply-sync}, Values.{Value-send, Value-sync}}
 use Rattle.cacache_threads.proofs.send.send_laws.Goals as goal
 
 pub returns-clause-sent_value : goal.returns-clause-sent_value

@@ -1,4 +1,4 @@
-use Rattle.cacache_value.proofs.AppendedLines.{whole_lines_add, torn_lines_add_none, nothing_left_is_nothing}
+use Rattle.cacache_value.proofs.MadeFolders.{whole_lines_add, torn_lines_add_none, nothing_left_is_nothing}
 use Rattle.cacache_value.proofs.laws.append_laws.Goals as goal
 
 pub returns-clause-whole : goal.returns-clause-whole

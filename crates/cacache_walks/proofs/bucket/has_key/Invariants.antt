@@ -1,5 +1,5 @@
 use Rattle.std.{proofs.Common.{◌≡◌, bytes_eq, length}, specs.List.{list_any}}
-use Rattle.cacache_walks.specs.Listed.{keys_in}
+use Rattle.cacache_walks.specs.Listing.{keys_in}
 use Rattle.cacache_walks.proofs.bucket.has_key.Given as goal
 
 abbrev pub invariant-loop-entry : goal.invariant-loop-entry

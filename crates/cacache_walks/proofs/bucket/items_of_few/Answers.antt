@@ -1,7 +1,7 @@
 use Rattle.std.proofs.Common.{◌≡◌, List, [], ◌∷◌, ◌++◌, map, string_bytes, sym, ap, ◌∙◌, append_assoc}
 use Rattle.cacache_entry.specs.{Bucket.{entries_of}, View.{entry_view}, declared.metadata.SerializableMetadata.{SerializableMetadata}}
 use Rattle.cacache_calls.specs.{Runs.{plain_item}, State.{Item}, Walking.{once}}
-use Rattle.cacache_walks.{specs.Listed.{keys_in, lookups, added_at}, proofs.BucketItems.{adds_first, all_items}}
+use Rattle.cacache_walks.{specs.Listing.{keys_in, lookups, added_at}, proofs.BucketItems.{adds_first, all_items}}
 use Rattle.cacache_walks.proofs.bucket.items_of_few.Goals as goal
 
 pub loop-entry-init : goal.loop-entry-init

@@ -1,7 +1,7 @@
 use Rattle.std.proofs.Common.{◌≡◌, ◌++◌, List, map, length}
 use Rattle.cacache_entry.specs.{Bucket.{entries_of}, Entry.{Entry}, View.{entry_view}}
 use Rattle.cacache_calls.specs.{Runs.{plain_item}, Walking.{once, items_in}}
-use Rattle.cacache_walks.specs.Listed.{keys_in, lookups}
+use Rattle.cacache_walks.specs.Listing.{keys_in, lookups}
 use Rattle.cacache_walks.proofs.bucket.items_of_few.Given as goal
 
 abbrev pub invariant-loop-entry : goal.invariant-loop-entry

@@ -1,8 +1,8 @@
-use Rattle.std.proofs.{Common.{List, [], ◌∷◌, ◌++◌, None, map, string_bytes, sym, ap, ◌∙◌, append_assoc}, lemmas.List.{nil_from_length}}
+use Rattle.std.proofs.{Common.{List, [], ◌∷◌, ◌++◌, map, string_bytes, ap, ◌∙◌, append_assoc}, lemmas.List.{nil_from_length}}
 use Rattle.std.specs.{Option.{option_to_list, option_map}, Prelude.{Ok}}
 use Rattle.cacache_entry.specs.{View.{entry_view}, declared.metadata.SerializableMetadata.{SerializableMetadata}}
 use Rattle.cacache_calls.specs.{Runs.{plain_item}, State.{Item}}
-use Rattle.cacache_walks.{specs.Listed.{keys_in, own_answer}, proofs.DecidingEntries.{removed, found_left, none_left, adds_found, adds_none, items_reversed}}
+use Rattle.cacache_walks.{specs.Listing.{keys_in, own_answer}, proofs.BucketItems.{removed, found_left, none_left, adds_found, adds_none, items_reversed}}
 use Rattle.cacache_walks.proofs.bucket.items_of_many.Goals as goal
 
 pub loop-entry-preserved-in_ok-push : goal.loop-entry-preserved-in_ok-push

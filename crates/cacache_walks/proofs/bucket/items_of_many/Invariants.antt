@@ -1,7 +1,7 @@
 use Rattle.std.{proofs.Common.{◌≡◌, ◌++◌, List, ℕ, length, map}, specs.Prelude.{reverse}}
 use Rattle.cacache_entry.specs.{View.{entry_view}, declared.metadata.SerializableMetadata.{SerializableMetadata}}
 use Rattle.cacache_calls.specs.{Runs.{plain_item}, Walking.{once}}
-use Rattle.cacache_walks.{specs.Listed.{keys_in, lookups, entry_in}, proofs.DecidingEntries.{decider_left}}
+use Rattle.cacache_walks.{specs.Listing.{keys_in, lookups, entry_in}, proofs.BucketItems.{decider_left}}
 use Rattle.cacache_walks.proofs.bucket.items_of_many.Given as goal
 
 abbrev pub invariant-loop-entry : goal.invariant-loop-entry

@@ -1,6 +1,6 @@
 use Rattle.std.proofs.Common.{◌≡◌, ◌++◌, List, ℕ, length, map}
 use Rattle.cacache_entry.specs.{View.{entry_view}, declared.metadata.SerializableMetadata.{SerializableMetadata}}
-use Rattle.cacache_walks.specs.Listed.{decider, entry_in}
+use Rattle.cacache_walks.specs.Listing.{decider, entry_in}
 use Rattle.cacache_walks.proofs.deciding.deciders.Given as goal
 
 abbrev pub invariant-loop-entry : goal.invariant-loop-entry

@@ -1,6 +1,6 @@
 use Rattle.std.proofs.Common.{Some, string_bytes, sym, ◌∙◌}
 use Rattle.cacache_entry.specs.View.{entry_view}
-use Rattle.cacache_walks.{specs.Listed.{entry_in}, proofs.DecidingEntries.{has_none, takes_place, at_text}}
+use Rattle.cacache_walks.{specs.Listing.{entry_in}, proofs.BucketItems.{has_none, takes_place, at_text}}
 use Rattle.cacache_walks.proofs.deciding.note.Goals as goal
 
 pub returns-in_ok-insert : goal.returns-in_ok-insert

@@ -1,5 +1,5 @@
 use Rattle.std.proofs.Common.{subst}
-use Rattle.cacache_world.specs.{WorldKept.{setup_of}, Admitted.{Judges}}
+use Rattle.cacache_world.specs.{WorldKept.{setup_of}, Faults.{Judges}}
 use Rattle.cacache_world.proofs.admitting.admit.Goals as goal
 
 pub returns-in-Ok-true-clause-may : goal.returns-in-Ok-true-clause-may

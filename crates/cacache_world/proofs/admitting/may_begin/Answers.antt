@@ -1,6 +1,6 @@
 use Rattle.std.{proofs.Common.{ℕ, sym, subst}, specs.Prelude.{IfOk}}
 use Rattle.cacache_history.specs.Setup.{call_site}
-use Rattle.cacache_world.specs.{WorldKept.{setup_of}, Admitted.{MayAsk, Judges}}
+use Rattle.cacache_world.specs.{WorldKept.{setup_of}, Faults.{MayAsk, Judges}}
 use Rattle.cacache_world.proofs.admitting.may_begin.Goals as goal
 
 pub returns-in-Put : goal.returns-in-Put

@@ -1,5 +1,5 @@
 use Rattle.cacache_loss.specs.Running.{moment_of}
-use Rattle.cacache_world.proofs.Losses.{lost_left}
+use Rattle.cacache_world.proofs.Played.{lost_left}
 use Rattle.cacache_world.proofs.losing.nodes_left.Goals as goal
 
 pub returns : goal.returns

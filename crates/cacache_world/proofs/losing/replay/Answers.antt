@@ -1,5 +1,5 @@
 use Rattle.cacache_loss.specs.{ChangedNames.{opening}, Running.{moment_of}}
-use Rattle.cacache_world.proofs.Losses.{record_more}
+use Rattle.cacache_world.proofs.Played.{record_more}
 use Rattle.cacache_world.proofs.losing.replay.Goals as goal
 
 pub loop-i-preserved : goal.loop-i-preserved

@@ -1,5 +1,5 @@
 use Rattle.std.{proofs.Common.{◌≡◌, true, false, sym, ap, ◌∙◌}, specs.Prelude.{Ok}}
-use Rattle.cacache_core.specs.PathNames.{names_of}
+use Rattle.cacache_core.specs.Paths.{names_of}
 use Rattle.cacache_history.specs.Setup.{same_place}
 use Rattle.cacache_world.proofs.NamesOfPaths.{one_here, not_yet}
 use Rattle.cacache_world.proofs.names.has_file.Goals as goal

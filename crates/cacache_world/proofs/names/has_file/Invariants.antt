@@ -1,5 +1,5 @@
 use Rattle.std.{proofs.Common.{◌≡◌, ℕ, List, false, take}, specs.Prelude.{Ok}}
-use Rattle.cacache_core.specs.PathNames.{names_of}
+use Rattle.cacache_core.specs.Paths.{names_of}
 use Rattle.cacache_history.specs.Setup.{has_file}
 use Rattle.cacache_world.proofs.names.has_file.Given as goal
 

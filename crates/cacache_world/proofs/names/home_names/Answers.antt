@@ -1,7 +1,7 @@
 use Rattle.std.proofs.{Common.{◌==◌, ◌++◌, ◌∷◌, [], lit<, length, sym, ap, ◌∙◌}, lemmas.{List.{length_push}, Iterator.{Consumers.{YieldsList-turn, YieldsList-end}, Splits.{YieldsList-from_str_split}}}}
 use Rattle.std.specs.List.{list_any}
-use Rattle.cacache_core.specs.PathNames.{pieces, is_above, is_name}
-use Rattle.cacache_disk.proofs.NameLemmas.{filter_yes, filter_no, none_yet, one_passes}
+use Rattle.cacache_core.specs.Paths.{pieces, is_above, is_name}
+use Rattle.cacache_disk.proofs.PathTexts.{filter_yes, filter_no, none_yet, one_passes}
 use Rattle.cacache_world.proofs.NamesOfPaths.{home_nul, home_above, home_all}
 use Rattle.cacache_world.proofs.names.home_names.Goals as goal
 

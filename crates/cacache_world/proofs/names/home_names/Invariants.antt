@@ -1,5 +1,5 @@
 use Rattle.std.{proofs.Common.{◌≡◌, false, length, take, filter}, specs.List.{list_any}}
-use Rattle.cacache_core.specs.PathNames.{pieces, is_above, is_name}
+use Rattle.cacache_core.specs.Paths.{pieces, is_above, is_name}
 use Rattle.cacache_world.proofs.names.home_names.Given as goal
 
 abbrev pub invariant-loop-piece : goal.invariant-loop-piece

@@ -1,5 +1,5 @@
 use Rattle.std.proofs.Common.{◌≡◌, true, false, sym, ap, ◌∙◌}
-use Rattle.cacache_core.specs.PathNames.{names_of}
+use Rattle.cacache_core.specs.Paths.{names_of}
 use Rattle.cacache_history.specs.Setup.{apart_from_text}
 use Rattle.cacache_world.proofs.NamesOfPaths.{one_near, apart_more}
 use Rattle.cacache_world.proofs.names.is_apart_from_files.Goals as goal

@@ -1,5 +1,5 @@
 use Rattle.std.{proofs.Common.{◌≡◌, subst, option_map}, specs.Result.{result_ok}}
-use Rattle.cacache_core.specs.PathNames.{names_of}
+use Rattle.cacache_core.specs.Paths.{names_of}
 use Rattle.cacache_world.proofs.NamesOfPaths.{none_among}
 use Rattle.cacache_world.proofs.names.is_outside.Goals as goal
 

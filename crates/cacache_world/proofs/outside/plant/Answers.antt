@@ -1,5 +1,5 @@
 use Rattle.std.proofs.Common.{ap, ◌∙◌, sym}
-use Rattle.cacache_history.{specs.Setup.{may_export}, proofs.Proper.{export_elsewhere}}
+use Rattle.cacache_history.{specs.Setup.{may_export}, proofs.StepActs.{export_elsewhere}}
 use Rattle.cacache_world.specs.WorldKept.{setup_of}
 use Rattle.cacache_world.proofs.outside.plant.Goals as goal
 

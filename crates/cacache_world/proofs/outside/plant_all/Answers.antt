@@ -1,4 +1,4 @@
-use Rattle.cacache_core.specs.PathNames.{home_of}
+use Rattle.cacache_core.specs.Paths.{home_of}
 use Rattle.cacache_world.proofs.Files.{lie_more, with_more, apart_more, all_apart, cant_open}
 use Rattle.cacache_world.proofs.outside.plant_all.Goals as goal
 

@@ -1,7 +1,7 @@
 use Rattle.std.proofs.Common.{◌≡◌, Ok, take}
-use Rattle.cacache_core.specs.PathNames.{home_of}
+use Rattle.cacache_core.specs.Paths.{home_of}
 use Rattle.cacache_disk.specs.Tree.{bare}
-use Rattle.cacache_value.specs.OpeningTrees.{with_files, LieApart}
+use Rattle.cacache_value.specs.Placed.{with_files, LieApart}
 use Rattle.cacache_world.proofs.Files.{ApartUpTo}
 use Rattle.cacache_world.proofs.outside.plant_all.Given as goal
 

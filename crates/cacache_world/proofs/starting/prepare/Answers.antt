@@ -1,5 +1,5 @@
 use Rattle.std.proofs.Common.{subst}
-use Rattle.cacache_world.{specs.{WorldKept.{setup_of}, Admitted.{MayAsk, IsTurnedAway}}, proofs.Worlds.{away_unready}}
+use Rattle.cacache_world.{specs.{WorldKept.{setup_of}, Faults.{MayAsk, IsTurnedAway}}, proofs.Worlds.{away_unready}}
 use Rattle.cacache_world.proofs.starting.prepare.Goals as goal
 
 pub returns-in-Ok-start-clause-may : goal.returns-in-Ok-start-clause-may

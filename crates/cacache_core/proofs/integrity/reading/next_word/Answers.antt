@@ -1,5 +1,5 @@
 use Rattle.std.proofs.{Common.{◌≡◌, ◌<◌, ◌-◌, ◌∷◌, [], false, List, ℕ, length, take, drop, get_or, sym, ap, ◌∙◌, add-zero, length-drop, arith}, lemmas.{Bool.{eqb-true, eqb-false}, List.{take_rest, get_or-drop, nil_from_length}}}
-use Rattle.cacache_core.{specs.Texts.{is_blank, words}, proofs.Words.{skip_blanks, cut_word, some_letter}}
+use Rattle.cacache_core.{specs.Texts.{is_blank, words}, proofs.Reading.{skip_blanks, cut_word, some_letter}}
 use Rattle.cacache_core.proofs.integrity.reading.next_word.Goals as goal
 
 pub returns-then-is_empty-clause-words : goal.returns-then-is_empty-clause-words

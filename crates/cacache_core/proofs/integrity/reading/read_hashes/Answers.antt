@@ -1,5 +1,5 @@
 use Rattle.std.proofs.{Common.{◌∙◌}, lemmas.List.Elements.{All-push}}
-use Rattle.cacache_core.{specs.{Integrity.{IsHash}, Texts.{words}}, proofs.ReadLemmas.{read_more}}
+use Rattle.cacache_core.{specs.{Integrity.{IsHash}, Texts.{words}}, proofs.Reading.{read_more}}
 use Rattle.cacache_core.proofs.integrity.reading.read_hashes.Goals as goal
 
 pub loop-word-preserved : goal.loop-word-preserved

@@ -1,5 +1,5 @@
 use Rattle.std.{proofs.Common.{◌≡◌, length}, specs.Prelude.{All}}
-use Rattle.cacache_core.{proofs.ReadLemmas.{before}, specs.{Integrity.{IsHash}, Texts.{words, read_words}}}
+use Rattle.cacache_core.{proofs.Reading.{before}, specs.{Integrity.{IsHash}, Texts.{words, read_words}}}
 use Rattle.cacache_core.proofs.integrity.reading.read_hashes.Given as goal
 
 abbrev pub invariant-loop-word : goal.invariant-loop-word

@@ -1,6 +1,6 @@
 use Rattle.std.{proofs.{Common.{◌≡◌, true, false, codes, nat_eq, List, ℕ, ap, ◌∙◌, sym}, lemmas.List.{take_rest}}, specs.List.{starts_with}}
 use Rattle.base64.specs.{Engines.{standard}, GeneralPurpose.{decode_of}}
-use Rattle.cacache_core.{specs.{declared.integrity.algorithm.Algorithm.TheVariants.{Sha512}, Texts.{read_word, hash_behind, decoded_hash}}, proofs.ReadLemmas.{fourth}}
+use Rattle.cacache_core.{specs.{declared.integrity.algorithm.Algorithm.TheVariants.{Sha512}, Texts.{read_word, hash_behind, decoded_hash}}, proofs.Reading.{fourth}}
 use Rattle.cacache_core.proofs.integrity.reading.split_name.Goals as goal
 
 pub returns-then-starts_with-4 : goal.returns-then-starts_with-4

@@ -1,5 +1,5 @@
 use Rattle.std.{proofs.Common.{◌∙◌, ap, sym, arith}, specs.Prelude.{Some, option_copied}}
-use Rattle.cacache_disk.{specs.{Tree.{look}, LedTo.{standing}}, proofs.Follow.{followed_next, followed_ok}}
+use Rattle.cacache_disk.{specs.{Tree.{look}, LedTo.{standing}}, proofs.Standing.{followed_next, followed_ok}}
 use Rattle.cacache_disk.proofs.disk.Disk.+followed.Goals as goal
 
 pub returns-in_err-next-in-Some-Link-clause-err : goal.returns-in_err-next-in-Some-Link-clause-err

@@ -1,5 +1,5 @@
 use Rattle.std.proofs.Common.{◌∙◌, sym, ap₂, subst}
-use Rattle.cacache_disk.{specs.{declared.node.Node.TheVariants.{Folder}, Tree.{Tree, Names, put}, Rooted.{Rooted}}, proofs.Roots.{bare_rooted}}
+use Rattle.cacache_disk.{specs.{declared.node.Node.TheVariants.{Folder}, Tree.{Tree, Names, put, Rooted}}, proofs.Roots.{bare_rooted}}
 use Rattle.cacache_disk.proofs.disk.Disk.new.Goals as goal
 
 pub invariant_of-result : goal.invariant_of-result

@@ -1,5 +1,5 @@
 use Rattle.std.proofs.Common.{subst}
-use Rattle.cacache_disk.{specs.Plans.{IsPlan, changed}, proofs.{Outcomes.{lucky, lucky_fits, unlucky}, NeverMemory.{told_answer}}}
+use Rattle.cacache_disk.{specs.Plans.{IsPlan, changed}, proofs.Outcomes.{lucky, lucky_fits, unlucky, told_answer}}
 use Rattle.cacache_disk.proofs.disk.Disk.outcome.Goals as goal
 
 pub returns-in-Ok-clause-ok : goal.returns-in-Ok-clause-ok

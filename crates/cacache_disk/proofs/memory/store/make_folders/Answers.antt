@@ -1,4 +1,4 @@
-use Rattle.cacache_disk.proofs.memory.PlainLuck.{dirs-failed, dirs-done}
+use Rattle.cacache_disk.proofs.Logs.{dirs-failed, dirs-done}
 use Rattle.cacache_disk.proofs.memory.store.make_folders.Goals as goal
 
 pub returns-clause-made : goal.returns-clause-made

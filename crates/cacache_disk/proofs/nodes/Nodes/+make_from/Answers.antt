@@ -1,6 +1,6 @@
 use Rattle.std.proofs.Common.{◌∙◌, sym, ap, arith, take, drop, ◌+◌, ◌-◌}
 use Rattle.cacache_disk.specs.{declared.node.Node.TheVariants.{Folder}, Apply.{make_some}, Plans.{with_file}, Tree.{cut, put}}
-use Rattle.cacache_disk.proofs.{PathFolders.{make_there, make_missing, make_none, drop_end}, PutNodes.{cut-put}}
+use Rattle.cacache_disk.proofs.{PathTexts.{make_there, make_missing, make_none, drop_end}, PutNodes.{cut-put}}
 use Rattle.cacache_disk.proofs.nodes.Nodes.+make_from.Goals as goal
 
 pub returns-then-from-len-clause-ok : goal.returns-then-from-len-clause-ok

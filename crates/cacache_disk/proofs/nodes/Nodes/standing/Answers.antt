@@ -1,5 +1,5 @@
 use Rattle.std.{proofs.Common.{◌∙◌, ◌++◌, ap}, specs.Prelude.{map as each}}
-use Rattle.cacache_disk.{specs.AllStanding.{item_of}, proofs.ToldNodes.{standing_entries}}
+use Rattle.cacache_disk.{specs.AllStanding.{item_of}, proofs.Maps.{standing_entries}}
 use Rattle.cacache_disk.proofs.nodes.Nodes.standing.Goals as goal
 
 pub loop-path-init : goal.loop-path-init

@@ -1,5 +1,5 @@
 use Rattle.std.{proofs.Common.{◌∙◌, ◌+◌, arith, ap, sym, take, drop}, specs.Prelude.{◌&&◌}}
-use Rattle.cacache_loss.{specs.{Loss.{lead_folders}, Losing.{left_of}}, proofs.LeftNodes.{leads_next}}
+use Rattle.cacache_loss.{specs.{Loss.{lead_folders}, Running.{left_of}}, proofs.LeftNodes.{leads_next}}
 use Rattle.cacache_loss.proofs.left.Losing.leads.Goals as goal
 
 pub returns-then-not-branch : goal.returns-then-not-branch

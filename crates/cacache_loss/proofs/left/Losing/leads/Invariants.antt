@@ -1,5 +1,5 @@
 use Rattle.std.proofs.Common.{◌≡◌, [], take, drop}
-use Rattle.cacache_loss.specs.{Loss.{lead_folders}, Losing.{left_of}}
+use Rattle.cacache_loss.specs.{Loss.{lead_folders}, Running.{left_of}}
 use Rattle.cacache_loss.proofs.left.Losing.leads.Given as goal
 
 abbrev pub invariant-loop-i : goal.invariant-loop-i

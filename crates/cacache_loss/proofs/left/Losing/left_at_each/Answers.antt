@@ -1,7 +1,7 @@
 use Rattle.std.proofs.Common.{◌≡◌, ◌∙◌, ap, sym}
 use Rattle.std.specs.FinMap as map
 use Rattle.cacache_disk.specs.Tree.{Names, look, names_cmp, put}
-use Rattle.cacache_loss.{specs.Losing.{lost_of}, proofs.LeftNodes.{left_more, left_none}}
+use Rattle.cacache_loss.{specs.Running.{lost_of}, proofs.LeftNodes.{left_more, left_none}}
 use Rattle.cacache_loss.proofs.left.Losing.left_at_each.Goals as goal
 
 pub loop-i-init : goal.loop-i-init

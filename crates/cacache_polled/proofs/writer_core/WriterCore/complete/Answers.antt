@@ -1,4 +1,4 @@
-use Rattle.cacache_polled.proofs.Seen.{ended_seen}
+use Rattle.cacache_polled.proofs.Held.{ended_seen}
 use Rattle.cacache_polled.proofs.writer_core.WriterCore.complete.Goals as goal
 
 pub returns-clause-seen : goal.returns-clause-seen

@@ -1,5 +1,5 @@
 use Rattle.std.proofs.Common.{rules, ◌≡◌, ◌<◌, refl, length, take, length-take-le}
-use Rattle.cacache_sync.proofs.content.{Fills.{consumes_nothing}, Rests.{all_passed, kept_passed, more_passed}, draining.drain.Goals.{in-Ok+in-Ok-write_all, in-Err}}
+use Rattle.cacache_sync.proofs.content.{Rests.{consumes_nothing, all_passed, kept_passed, more_passed}, draining.drain.Goals.{in-Ok+in-Ok-write_all, in-Err}}
 use Rattle.cacache_sync.proofs.content.draining.drain.Goals as goal
 
 -- the read that gave nothing, into a piece that has room

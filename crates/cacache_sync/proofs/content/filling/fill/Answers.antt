@@ -1,5 +1,5 @@
 use Rattle.std.proofs.Common.{rules, length, ◌-◌}
-use Rattle.cacache_sync.proofs.content.{Fills.{consumes_nothing, gave_further, gave_no_further, part_given}, filling.fill.Goals.{in-Ok, in-Err}}
+use Rattle.cacache_sync.proofs.content.{Rests.{consumes_nothing, gave_further, gave_no_further, part_given}, filling.fill.Goals.{in-Ok, in-Err}}
 use Rattle.cacache_sync.proofs.content.filling.fill.Goals as goal
 
 -- the read that gave nothing

@@ -1,6 +1,6 @@
 -- What was filled so far is the front of the buffer, and the reader gave it.
 use Rattle.std.proofs.Common.{◌≡◌, ◌≤◌, length, take}
-use Rattle.cacache_sync.proofs.content.Fills.{Gave}
+use Rattle.cacache_sync.proofs.content.Rests.{Gave}
 use Rattle.cacache_sync.proofs.content.filling.fill.Given as goal
 
 abbrev pub invariant-loop-tries : goal.invariant-loop-tries

@@ -1,4 +1,4 @@
-use Rattle.cacache_sync.proofs.content.MadeTemps.{makes_by}
+use Rattle.cacache_sync.proofs.content.Writes.{makes_by}
 use Rattle.cacache_sync.proofs.content.writer.make_temp.Goals as goal
 
 pub returns : goal.returns

@@ -1,6 +1,6 @@
 use Rattle.std.proofs.Common.{ap, ◌∙◌}
-use Rattle.cacache_core.specs.Contexts.{fault_of}
-use Rattle.cacache_sync.proofs.content.GivenUp.{given_up_earned, refused_earned}
+use Rattle.cacache_core.specs.Errors.{fault_of}
+use Rattle.cacache_sync.proofs.content.Writes.{given_up_earned, refused_earned}
 use Rattle.cacache_sync.proofs.content.writer.write_or_abandon.Goals as goal
 
 pub returns-clause-earned : goal.returns-clause-earned

@@ -2,7 +2,7 @@ use Rattle.std.proofs.Common.{inl, refl}
 use Rattle.cacache_store.specs.declared.store.{answer.Answer.TheVariants.{Length}, step.Step.TheVariants.{Size}}
 use Rattle.cacache_calls.specs.Linking.{with_size}
 use Rattle.cacache_sync.specs.put.OpenLinkers.{asks_size, asks_file}
-use Rattle.cacache_sync.proofs.{content.StepAnswers.{refusal_of, refused_fails, size_refused}, put.Linkers.{fails_by, goes_by, opened_after, opened_sized, sized_so}}
+use Rattle.cacache_sync.proofs.{content.StepAnswers.{refusal_of, refused_fails, size_refused}, Linkers.{fails_by, goes_by, opened_after, opened_sized, sized_so}}
 use Rattle.cacache_sync.proofs.put.linker.ask_size_and_open.Goals as goal
 
 pub returns-in-Ok : goal.returns-in-Ok

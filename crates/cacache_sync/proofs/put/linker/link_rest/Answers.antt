@@ -1,6 +1,6 @@
 use Rattle.std.proofs.Common.{◌≡◌, ◌∙◌}
 use Rattle.cacache_core.specs.{Hashers.{algorithm_of}, Integrity.{integrity_under}}
-use Rattle.cacache_sync.proofs.put.Linkers.{lost_so, ran_through}
+use Rattle.cacache_sync.proofs.Linkers.{lost_so, ran_through}
 use Rattle.cacache_sync.proofs.put.linker.link_rest.Goals as goal
 
 pub returns-in-Ok-result-clause-ran : goal.returns-in-Ok-result-clause-ran

@@ -1,6 +1,6 @@
 use Rattle.std.proofs.Common.{refl}
 use Rattle.cacache_store.specs.declared.store.{answer.Answer.TheVariants.{File}, step.Step.TheVariants.{Open}}
-use Rattle.cacache_sync.{specs.put.OpenLinkers.{asks_file}, proofs.{content.StepAnswers.{file_refused, refusal_of, refused_fails}, put.Linkers.{fails_by, goes_by, opened_so}}}
+use Rattle.cacache_sync.{specs.put.OpenLinkers.{asks_file}, proofs.{content.StepAnswers.{file_refused, refusal_of, refused_fails}, Linkers.{fails_by, goes_by, opened_so}}}
 use Rattle.cacache_sync.proofs.put.linker.open_target.Goals as goal
 
 pub returns-in-Ok : goal.returns-in-Ok

@@ -1,4 +1,4 @@
-use Rattle.cacache_sync.proofs.put.LinkCalls.{links_hold}
+use Rattle.cacache_sync.proofs.Linkers.{links_hold}
 use Rattle.cacache_sync.proofs.put.linkto.make_link.Goals as goal
 
 pub returns-clause-whole : goal.returns-clause-whole

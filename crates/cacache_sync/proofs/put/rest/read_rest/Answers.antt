@@ -1,6 +1,6 @@
 use Rattle.std.proofs.Common.{◌≡◌, ◌==◌, ◌++◌, true, false, length, length-append, refl, arith, ◌∙◌}
 use Rattle.cacache_core.specs.declared.errors.Error.TheVariants.{OutOfMemory}
-use Rattle.cacache_sync.proofs.put.Linkers.{more_taken, all_taken, none_taken, lost_so}
+use Rattle.cacache_sync.proofs.Linkers.{more_taken, all_taken, none_taken, lost_so}
 use Rattle.cacache_sync.proofs.put.rest.read_rest.Goals as goal
 
 pub returns-then-is_empty : goal.returns-then-is_empty

@@ -1,7 +1,7 @@
 use Rattle.std.specs.Prelude.{◌≡◌, ℕ, List, length}
 use Rattle.cacache_core.specs.Hashers.{Holds}
 use Rattle.cacache_calls.specs.{Runs.{Gone}, State.{hashing, to_link}, declared.target.Target.{Target}}
-use Rattle.cacache_sync.specs.put.Rest.{HoldsOn}
+use Rattle.cacache_sync.specs.put.OpenLinkers.{HoldsOn}
 use Rattle.cacache_sync.proofs.put.rest.read_rest.Given as goal
 
 abbrev pub invariant-pieces : goal.invariant-pieces

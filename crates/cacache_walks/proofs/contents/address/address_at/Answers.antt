@@ -1,4 +1,4 @@
-use Rattle.std.proofs.{Common.{rules, ◌≡◌, ℕ, List, true, false, length, drop, sym, ap, ◌∙◌, bytes_eq}, lemmas.Slice.Eq.{bytes_eq-Decides}}
+use Rattle.std.proofs.{Common.{rules, ◌≡◌, true, false, length, drop, sym, ap, ◌∙◌, bytes_eq}, lemmas.Slice.Eq.{bytes_eq-Decides}}
 use Rattle.cacache_core.specs.Integrity.{hash_of}
 use Rattle.cacache_walks.proofs.TakenApart.{behind_top, not_shorter, same_path_of, rest_all, lie_of, memory_alone}
 use Rattle.cacache_walks.proofs.contents.address.address_at.Goals as goal

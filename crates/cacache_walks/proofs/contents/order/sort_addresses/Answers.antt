@@ -1,6 +1,6 @@
 use Rattle.std.{proofs.{Common.{ap}, lemmas.List.{Filters.{dedup_is}, Sorted.{answers_always, ranks_by}}}, specs.{Cmp.Lexicographic.{options_total}, Ordering.{is_lt}}}
-use Rattle.cacache_core.specs.{Integrity.{address}, Same.{same_hashes-Decides, same_hashes-equiv}}
-use Rattle.cacache_walks.proofs.Orders.{addresses_ordered, by_address, hash_total, same_elements}
+use Rattle.cacache_core.specs.{Integrity.{address}, Comparing.{same_hashes-Decides, same_hashes-equiv}}
+use Rattle.cacache_walks.proofs.Sorting.{addresses_ordered, by_address, hash_total, same_elements}
 use Rattle.cacache_walks.proofs.contents.order.sort_addresses.Goals as goal
 
 pub returns-clause-same : goal.returns-clause-same

@@ -1,6 +1,6 @@
 use Rattle.std.specs.Cmp.Lexicographic.{bytes_decides, nat_list_cmp_total, nat_list_eq_equiv, texts_ties}
 use Rattle.std.proofs.lemmas.List.{Filters.{dedup_is}, Kept.{IsStrictlySortedBy-dedup}}
-use Rattle.cacache_walks.proofs.Orders.{same_elements}
+use Rattle.cacache_walks.proofs.Sorting.{same_elements}
 use Rattle.cacache_walks.proofs.contents.order.sort_paths.Goals as goal
 
 pub returns-clause-same : goal.returns-clause-same

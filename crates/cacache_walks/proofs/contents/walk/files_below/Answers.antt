@@ -1,5 +1,5 @@
 use Rattle.std.proofs.Common.{rules}
-use Rattle.cacache_walks.proofs.{Stopping.{stops_on}, WholeWalk.{begins, goes_on, ended}}
+use Rattle.cacache_walks.proofs.{Stopping.{stops_on}, Walks.{begins, goes_on, ended}}
 use Rattle.cacache_walks.proofs.contents.walk.files_below.Goals as goal
 
 pub visits-init : goal.visits-init

@@ -1,6 +1,6 @@
 use Rattle.std.proofs.Common.{◌∷◌, []}
 use Rattle.cacache_calls.specs.Walking.{most}
-use Rattle.cacache_walks.specs.{Reading.{top_folder}, WalkSteps.{GoesFrom, steps_left}}
+use Rattle.cacache_walks.specs.{Reading.{top_folder}, WalkStates.{GoesFrom, steps_left}}
 use Rattle.cacache_walks.proofs.contents.walk.files_below.Given as goal
 
 abbrev pub invariant-visits : goal.invariant-visits

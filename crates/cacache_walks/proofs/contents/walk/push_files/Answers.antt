@@ -1,5 +1,5 @@
 use Rattle.std.proofs.Common.{◌++◌, ◌∷◌, ℕ, inl, inr, List, ap, sym, ◌∙◌, append-nil, []}
-use Rattle.cacache_walks.proofs.{FolderFiles.{more_files}, contents.walk.push_files.Goals.{in-Folder, in-File+in_ok-join-in-File+in_ok-push-in-File}}
+use Rattle.cacache_walks.proofs.{Sorting.{more_files}, contents.walk.push_files.Goals.{in-Folder, in-File+in_ok-join-in-File+in_ok-push-in-File}}
 use Rattle.cacache_walks.proofs.contents.walk.push_files.Goals as goal
 
 pub loop-name-preserved : goal.loop-name-preserved

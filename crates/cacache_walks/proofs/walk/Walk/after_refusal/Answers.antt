@@ -1,5 +1,5 @@
 use Rattle.cacache_calls.specs.Walking.{walk_on}
-use Rattle.cacache_walks.{specs.WalkStates.{pending}, proofs.Giving.{gave_no}}
+use Rattle.cacache_walks.{specs.WalkStates.{pending}, proofs.Walks.{gave_no}}
 use Rattle.cacache_walks.proofs.walk.Walk.after_refusal.Goals as goal
 
 pub returns-else-branch : goal.returns-else-branch

@@ -1,5 +1,5 @@
 use Rattle.std.proofs.{Common.{◌≡◌, ◌+◌, ◌≤◌, ◌<◌, ◌++◌, take, length, length-append, sym, arith}, lemmas.List.{length-take-le}}
-use Rattle.cacache_walks.proofs.Giving.{given_over}
+use Rattle.cacache_walks.proofs.Walks.{given_over}
 use Rattle.cacache_walks.proofs.walk.Walk.give.Goals as goal
 
 pub returns-clause-gives : goal.returns-clause-gives

@@ -1,6 +1,6 @@
 use Rattle.std.proofs.Common.{◌≡◌, map}
 use Rattle.cacache_calls.specs.{Runs.{plain_item}, Walking.{walk_on, items_in}}
-use Rattle.cacache_walks.{specs.WalkStates.{pending}, proofs.Giving.{gave_no}}
+use Rattle.cacache_walks.{specs.WalkStates.{pending}, proofs.Walks.{gave_no}}
 use Rattle.cacache_walks.proofs.walk.Walk.give_listed.Goals as goal
 
 pub returns : goal.returns

@@ -1,6 +1,6 @@
 use Rattle.std.proofs.Common.{sym, ◌∙◌}
 use Rattle.cacache_calls.specs.Walking.{walk_on}
-use Rattle.cacache_walks.{specs.WalkStates.{pending}, proofs.Giving.{stumbled, gave_yes, gave_no}}
+use Rattle.cacache_walks.{specs.WalkStates.{pending}, proofs.Walks.{stumbled, gave_yes, gave_no}}
 use Rattle.cacache_walks.proofs.walk.Walk.walk_on.Goals as goal
 
 pub loop-task-preserved : goal.loop-task-preserved

@@ -1,6 +1,6 @@
 use Rattle.std.proofs.Common.{◌∙◌, ◌∷◌, ◌++◌, [], ◌+◌, ap, vec_len, subst}
 use Rattle.cacache_history.specs.declared.record.Record.TheVariants.{Began}
-use Rattle.cacache_world.specs.{WorldKept.{history_told, adding, history_of, setup_of, AddsRecord}, Admitted.{MayAsk}, Faults.{IsUnready, CantBegin}}
+use Rattle.cacache_world.specs.{WorldKept.{history_told, adding, history_of, setup_of, AddsRecord}, Faults.{MayAsk, IsUnready, CantBegin}}
 use Rattle.cacache_world.proofs.Worlds.{begin_left, same_parts, keeps_same, cant_begin}
 use Rattle.cacache_world.proofs.world.World.begin.Goals as goal
 

@@ -1,6 +1,6 @@
 use Rattle.std.proofs.Common.{vec_len, sym, subst}
 use Rattle.cacache_disk.specs.Tree.{Tree}
-use Rattle.cacache_world.{specs.{Losses.{LeftBy}, WorldKept.{history_told}}, proofs.Losses.{left_rooted, told_left}}
+use Rattle.cacache_world.{specs.{Played.{LeftBy}, WorldKept.{history_told}}, proofs.Played.{left_rooted, told_left}}
 use Rattle.cacache_world.proofs.world.World.lose.Goals as goal
 
 pub of-requires : goal.of-requires

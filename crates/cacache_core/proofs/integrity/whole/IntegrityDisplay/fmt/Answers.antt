@@ -1,6 +1,6 @@
 use Rattle.std.proofs.{Common.{◌≡◌, ap, ◌∙◌, get_or, length, drop, ◌-◌, length-take, length-drop, rules, arith}, lemmas.Grind.{common_steps}, Output.{has_written_append, has_written_of_eq}}
 use Rattle.std.specs.Fmt.{HasWritten}
-use Rattle.cacache_core.{specs.Texts.{hash_text, integrity_text}, proofs.Printing.{spaced_more, spaced_all}}
+use Rattle.cacache_core.{specs.Texts.{hash_text, integrity_text}, proofs.Printed.{spaced_more, spaced_all}}
 use Rattle.cacache_core.proofs.integrity.whole.IntegrityDisplay.fmt.Goals as goal
 
 pub loop-hash-preserved : goal.loop-hash-preserved

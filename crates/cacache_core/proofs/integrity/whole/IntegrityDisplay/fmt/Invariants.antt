@@ -1,5 +1,5 @@
 use Rattle.std.{proofs.Common.{take}, specs.{Fmt.{HasWritten, IsPlainFormatter}, List.{flat_map}}}
-use Rattle.cacache_core.proofs.Printing.{spaced}
+use Rattle.cacache_core.proofs.Printed.{spaced}
 use Rattle.cacache_core.proofs.integrity.whole.IntegrityDisplay.fmt.Given as goal
 
 abbrev pub invariant-loop-hash : goal.invariant-loop-hash

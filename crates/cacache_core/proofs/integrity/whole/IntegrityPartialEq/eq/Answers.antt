@@ -1,5 +1,5 @@
 use Rattle.std.proofs.Common.{sym, ◌∙◌}
-use Rattle.cacache_core.specs.Same.{same_hashes-Decides}
+use Rattle.cacache_core.specs.Comparing.{same_hashes-Decides}
 use Rattle.cacache_core.proofs.integrity.whole.IntegrityPartialEq.eq.Goals as goal
 
 pub returns-clause-same : goal.returns-clause-same

@@ -1,6 +1,6 @@
 use Rattle.std.proofs.Common.{◌≡◌, ◌∙◌, List, sym, ap}
-use Rattle.cacache_core.specs.{declared.integrity.digest.Hash.{Hash}, Meeting.{lists}}
-use Rattle.cacache_core.proofs.{Joining.{once_more, with_there, with_new}, integrity.whole.making.push_new.Goals.{then-not-contains+in_ok-clone+in_ok-push, else-not-contains}}
+use Rattle.cacache_core.specs.{declared.integrity.digest.Hash.{Hash}, Matching.{lists}}
+use Rattle.cacache_core.proofs.{Order.{once_more, with_there, with_new}, integrity.whole.making.push_new.Goals.{then-not-contains+in_ok-clone+in_ok-push, else-not-contains}}
 use Rattle.cacache_core.proofs.integrity.whole.making.push_new.Goals as goal
 
 pub loop-hash-preserved : goal.loop-hash-preserved

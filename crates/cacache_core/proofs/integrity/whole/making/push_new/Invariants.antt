@@ -1,5 +1,5 @@
 use Rattle.std.{proofs.Common.{◌≡◌, take}, specs.List.{fold}}
-use Rattle.cacache_core.specs.Joining.{with_hash}
+use Rattle.cacache_core.specs.Matching.{with_hash}
 use Rattle.cacache_core.proofs.integrity.whole.making.push_new.Given as goal
 
 abbrev pub invariant-loop-hash : goal.invariant-loop-hash

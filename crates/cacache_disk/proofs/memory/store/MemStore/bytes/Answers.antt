@@ -1,5 +1,5 @@
 use Rattle.std.{proofs.Common.{◌∙◌, sym, ap}, specs.Prelude.{Some}}
-use Rattle.cacache_disk.{specs.memory.Replay.{tree_of}, proofs.memory.PlainLuck.{shown-shared}}
+use Rattle.cacache_disk.{specs.Replay.{tree_of}, proofs.Logs.{shown-shared}}
 use Rattle.cacache_disk.proofs.memory.store.MemStore.bytes.Goals as goal
 
 pub returns-in_ok-from_slice-in-Some-clause-ok : goal.returns-in_ok-from_slice-in-Some-clause-ok

@@ -1,5 +1,5 @@
 use Rattle.std.proofs.Common.{◌∙◌, sym, ap, subst}
-use Rattle.cacache_disk.{specs.memory.Replay.{tree_of, IsLog}, proofs.memory.LogSteps.{tree_of-nothing, IsLog-nothing}}
+use Rattle.cacache_disk.{specs.Replay.{tree_of, IsLog}, proofs.Logs.{tree_of-nothing, IsLog-nothing}}
 use Rattle.cacache_disk.proofs.memory.store.MemStore.new.Goals as goal
 
 pub invariant_of-result : goal.invariant_of-result

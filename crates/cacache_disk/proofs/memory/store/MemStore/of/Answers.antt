@@ -1,5 +1,5 @@
 use Rattle.std.{proofs.Common.{◌≡◌, ◌∷◌, ◌∙◌, subst}, specs.Vec.Iter.{into_iter_items}}
-use Rattle.cacache_disk.proofs.memory.Receiving.{Receives, receives_first, receives_next}
+use Rattle.cacache_disk.proofs.Logs.{Receives, receives_first, receives_next}
 use Rattle.cacache_disk.proofs.memory.store.MemStore.of.Goals as goal
 
 pub loop-item-init : goal.loop-item-init

@@ -1,5 +1,5 @@
 use Rattle.std.specs.Vec.Iter.{into_iter_items}
-use Rattle.cacache_disk.proofs.memory.Receiving.{Receives}
+use Rattle.cacache_disk.proofs.Logs.{Receives}
 use Rattle.cacache_disk.proofs.memory.store.MemStore.of.Given as goal
 
 abbrev pub invariant-loop-item : goal.invariant-loop-item

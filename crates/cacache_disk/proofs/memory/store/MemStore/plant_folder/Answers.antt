@@ -1,6 +1,6 @@
 use Rattle.std.proofs.Common.{◌∙◌, ◌∷◌, ◌++◌, [], sym, ap}
 use Rattle.cacache_store.specs.declared.store.log.LogItem.TheVariants.{ForeignFolder}
-use Rattle.cacache_disk.proofs.memory.LogSteps.{IsLog-push, tree_of-push}
+use Rattle.cacache_disk.proofs.Logs.{IsLog-push, tree_of-push}
 use Rattle.cacache_disk.proofs.memory.store.MemStore.plant_folder.Goals as goal
 
 pub invariant_of-self-in-None : goal.invariant_of-self-in-None

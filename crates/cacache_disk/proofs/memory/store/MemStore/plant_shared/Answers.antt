@@ -1,6 +1,6 @@
 use Rattle.std.{proofs.Common.{◌∙◌, ◌∷◌, ◌++◌, [], sym, ap}, specs.Result.{result_err}}
 use Rattle.cacache_store.specs.declared.store.log.LogItem.TheVariants.{Foreign}
-use Rattle.cacache_disk.{specs.{Apply.{planted}, memory.Replay.{changed}}, proofs.memory.LogSteps.{IsLog-push, tree_of-push}}
+use Rattle.cacache_disk.{specs.{Apply.{planted}, Replay.{changed}}, proofs.Logs.{IsLog-push, tree_of-push}}
 use Rattle.cacache_disk.proofs.memory.store.MemStore.plant_shared.Goals as goal
 
 pub invariant_of-self-in-Ok : goal.invariant_of-self-in-Ok

@@ -1,6 +1,6 @@
 use Rattle.std.proofs.Common.{◌∙◌, ◌∷◌, ◌++◌, [], sym, ap}
 use Rattle.cacache_store.specs.declared.store.log.LogItem.TheVariants.{Made}
-use Rattle.cacache_disk.proofs.memory.{LogSteps.{IsLog-push, tree_of-push}, LoggedSteps.{Logs-made}}
+use Rattle.cacache_disk.proofs.Logs.{IsLog-push, tree_of-push, Logs-made}
 use Rattle.cacache_disk.proofs.memory.store.MemStoreStore.step.Goals as goal
 
 pub invariant_of-self-2 : goal.invariant_of-self-2

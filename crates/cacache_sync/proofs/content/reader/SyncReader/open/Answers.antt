@@ -1,4 +1,4 @@
-use Rattle.cacache_sync.proofs.content.OpenedLookups.{refused_key}
+use Rattle.cacache_sync.proofs.content.Rests.{refused_key}
 use Rattle.cacache_sync.proofs.content.reader.SyncReader.open.Goals as goal
 
 pub returns-in-Err-clause-opens : goal.returns-in-Err-clause-opens

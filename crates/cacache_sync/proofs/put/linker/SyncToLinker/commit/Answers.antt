@@ -1,5 +1,5 @@
 use Rattle.std.proofs.Common.{◌≡◌, ◌∙◌, ℕ, sym, ap, arith, length}
-use Rattle.cacache_sync.proofs.put.Wholes.{stores_whole_of}
+use Rattle.cacache_sync.proofs.Linkers.{stores_whole_of}
 use Rattle.cacache_calls.specs.declared.target.Target.{Target}
 use Rattle.cacache_sync.proofs.put.linker.SyncToLinker.commit.Goals as goal
 

@@ -1,6 +1,0 @@
-mod LogSteps
-mod PlainLuck
-mod LoggedSteps
-mod PutItems
-mod ForeignLogs
-mod Receiving

@@ -1,3 +1,0 @@
-mod LinkCalls
-mod Linkers
-mod Wholes
