@@ -1,9 +1,9 @@
 -- What is read by polls: how it opens, and what a poll fails with.
 use Rattle.std.specs.{Prelude.{ℕ, Result, Ok, Err}, IoError.{error_kind}}
-use Rattle.cacache_core.specs.{declared.errors.Error.{Error}, Contexts.{fault_of}}
-use Rattle.cacache_store.specs.Failures.{Error as IoError}
+use Rattle.cacache_core.specs.{declared.errors.Error.{Error}, Errors.{fault_of}}
+use Rattle.cacache_store.specs.Outside.{Error as IoError}
 use Rattle.cacache_sync.specs.declared.{content.reader.SyncReader.{SyncReader}, put.linker.SyncToLinker.{SyncToLinker}}
-use Rattle.cacache_async.specs.{Waiting.{TellsFault}, declared.{reader.Reader.{Reader}, linker.ToLinker.{ToLinker}}}
+use Rattle.cacache_async.specs.{Futures.{TellsFault}, declared.{reader.Reader.{Reader}, linker.ToLinker.{ToLinker}}}
 
 -- a poll answers as a read of the handle did: how many bytes there were, or the fault
 abbrev pub TellsRead :

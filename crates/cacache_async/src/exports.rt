@@ -3,7 +3,7 @@ ghost use Rattle.std.specs.Prelude.{◌≡◌, true, false, IfOk};
 ghost use Rattle.cacache_calls.specs.{declared.{command.How.TheVariants.{Copy, Reflink, HardLink}, reply.Reply.TheVariants.{Copied, Done}}, Replies.{done}, Runs.{reply_of}};
 ghost use Rattle.cacache_jobs.specs.{ReadFirst.{Verified}, Environment.{Calls}};
 ghost use Rattle.cacache_sync.specs.{declared.exporting.Named.TheVariants.{Key, Hash}, Exports.{exporting, named_source, IsFormed}};
-ghost use Rattle.cacache_async.specs.Waiting.{Waits};
+ghost use Rattle.cacache_async.specs.Futures.{Waits};
 
 use crate::call::Call;
 use crate::future::CallFuture;
@@ -21,6 +21,20 @@ pub struct CopyCall<'a> {
     named: Named<'a>,
     checked: bool,
     to: &'a str,
+}
+
+impl<'a> CopyCall<'a> {
+    fn of(cache: &'a str, named: Named<'a>, checked: bool, to: &'a str) -> CopyCall<'a>
+        ensures { result
+            ≡ record { cache = cache.entry; named = named.entry; checked = checked; to = to.entry } }
+    {
+        CopyCall {
+            cache,
+            named,
+            checked,
+            to,
+        }
+    }
 }
 
 impl<'a, S: Store, C: Clock, N: Names> Call<S, C, N> for CopyCall<'a> {
@@ -44,6 +58,20 @@ pub struct ReflinkCall<'a> {
     named: Named<'a>,
     checked: bool,
     to: &'a str,
+}
+
+impl<'a> ReflinkCall<'a> {
+    fn of(cache: &'a str, named: Named<'a>, checked: bool, to: &'a str) -> ReflinkCall<'a>
+        ensures { result
+            ≡ record { cache = cache.entry; named = named.entry; checked = checked; to = to.entry } }
+    {
+        ReflinkCall {
+            cache,
+            named,
+            checked,
+            to,
+        }
+    }
 }
 
 impl<'a, S: Store, C: Clock, N: Names> Call<S, C, N> for ReflinkCall<'a> {
@@ -120,17 +148,7 @@ pub fn copy<'a, S: Store, C: Clock, N: Names>(
     ensures waits { Waits result env.entry
         (record { cache = cache.entry; named = Key key.entry; checked = true; to = to.entry }) }
 {
-    let named = Named::Key(key);
-    let checked = true;
-    CallFuture::new(
-        env,
-        CopyCall {
-            cache,
-            named,
-            checked,
-            to,
-        },
-    )
+    CallFuture::new(env, CopyCall::of(cache, Named::Key(key), true, to))
 }
 
 /// `copy_hash_sync` as a future, run as in the example of `read`.
@@ -143,17 +161,7 @@ pub fn copy_hash<'a, S: Store, C: Clock, N: Names>(
     ensures waits { Waits result env.entry
         (record { cache = cache.entry; named = Hash sri.entry; checked = true; to = to.entry }) }
 {
-    let named = Named::Hash(sri);
-    let checked = true;
-    CallFuture::new(
-        env,
-        CopyCall {
-            cache,
-            named,
-            checked,
-            to,
-        },
-    )
+    CallFuture::new(env, CopyCall::of(cache, Named::Hash(sri), true, to))
 }
 
 /// `copy_unchecked_sync` as a future, run as in the example of `read`.
@@ -166,17 +174,7 @@ pub fn copy_unchecked<'a, S: Store, C: Clock, N: Names>(
     ensures waits { Waits result env.entry
         (record { cache = cache.entry; named = Key key.entry; checked = false; to = to.entry }) }
 {
-    let named = Named::Key(key);
-    let checked = false;
-    CallFuture::new(
-        env,
-        CopyCall {
-            cache,
-            named,
-            checked,
-            to,
-        },
-    )
+    CallFuture::new(env, CopyCall::of(cache, Named::Key(key), false, to))
 }
 
 /// `copy_hash_unchecked_sync` as a future, run as in the example of `read`.
@@ -189,17 +187,7 @@ pub fn copy_hash_unchecked<'a, S: Store, C: Clock, N: Names>(
     ensures waits { Waits result env.entry
         (record { cache = cache.entry; named = Hash sri.entry; checked = false; to = to.entry }) }
 {
-    let named = Named::Hash(sri);
-    let checked = false;
-    CallFuture::new(
-        env,
-        CopyCall {
-            cache,
-            named,
-            checked,
-            to,
-        },
-    )
+    CallFuture::new(env, CopyCall::of(cache, Named::Hash(sri), false, to))
 }
 
 /// `reflink_sync` as a future, run as in the example of `read`. Real folders make no reflinks: there its last step
@@ -213,17 +201,7 @@ pub fn reflink<'a, S: Store, C: Clock, N: Names>(
     ensures waits { Waits result env.entry
         (record { cache = cache.entry; named = Key key.entry; checked = true; to = to.entry }) }
 {
-    let named = Named::Key(key);
-    let checked = true;
-    CallFuture::new(
-        env,
-        ReflinkCall {
-            cache,
-            named,
-            checked,
-            to,
-        },
-    )
+    CallFuture::new(env, ReflinkCall::of(cache, Named::Key(key), true, to))
 }
 
 /// `reflink_hash_sync` as a future, run as in the example of `read`. Real folders make no reflinks: there its last step
@@ -237,17 +215,7 @@ pub fn reflink_hash<'a, S: Store, C: Clock, N: Names>(
     ensures waits { Waits result env.entry
         (record { cache = cache.entry; named = Hash sri.entry; checked = true; to = to.entry }) }
 {
-    let named = Named::Hash(sri);
-    let checked = true;
-    CallFuture::new(
-        env,
-        ReflinkCall {
-            cache,
-            named,
-            checked,
-            to,
-        },
-    )
+    CallFuture::new(env, ReflinkCall::of(cache, Named::Hash(sri), true, to))
 }
 
 /// `reflink_unchecked_sync` as a future, run as in the example of `read`. Real folders make no reflinks: there its last
@@ -261,17 +229,7 @@ pub fn reflink_unchecked<'a, S: Store, C: Clock, N: Names>(
     ensures waits { Waits result env.entry
         (record { cache = cache.entry; named = Key key.entry; checked = false; to = to.entry }) }
 {
-    let named = Named::Key(key);
-    let checked = false;
-    CallFuture::new(
-        env,
-        ReflinkCall {
-            cache,
-            named,
-            checked,
-            to,
-        },
-    )
+    CallFuture::new(env, ReflinkCall::of(cache, Named::Key(key), false, to))
 }
 
 /// `hard_link_sync` as a future. On real folders both names are one file: whoever changes it through this one damages

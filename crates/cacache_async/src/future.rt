@@ -1,7 +1,7 @@
 //! The future of a call.
 ghost use Rattle.std.specs.Prelude.{◌≡◌, ⊤, None, IfSome, IfNone};
 ghost use Rattle.futures.specs.{Poll.{IfReady, OnPending}, Task.{Covers, Keeps}};
-ghost use Rattle.cacache_async.specs.Waiting.{MayAnswer, SaysOver, TellsFault, Waits};
+ghost use Rattle.cacache_async.specs.Futures.{MayAnswer, SaysOver, TellsFault, Waits};
 
 use crate::call::Call;
 use cacache_core::errors::{Error, Fault, Result};

@@ -3,8 +3,8 @@ ghost use Rattle.std.specs.Prelude.{◌≡◌, None, IfOk};
 ghost use Rattle.cacache_calls.specs.declared.command.Command.TheVariants as commands;
 ghost use Rattle.cacache_calls.specs.{declared.reply.Reply.TheVariants.{Stored}, Inserting.{given_or, no_integrity}, Replies.{done, looked_up}, Runs.{reply_of}};
 ghost use Rattle.cacache_jobs.specs.Environment.{Calls, RunsTimed};
-ghost use Rattle.cacache_sync.specs.{Lookups.{LooksUp, delete_of}, put.Puts.{insert_of}};
-ghost use Rattle.cacache_async.specs.Waiting.{Waits};
+ghost use Rattle.cacache_sync.specs.{Lookups.{LooksUp, delete_of}, put.KeyedWriters.{insert_of}};
+ghost use Rattle.cacache_async.specs.Futures.{Waits};
 
 use crate::call::Call;
 use crate::future::CallFuture;

@@ -1,10 +1,10 @@
 //! Links that are made after their target is read by polls.
 ghost use Rattle.std.specs.{Prelude.{◌≡◌, ◌++◌, ℕ, List, None, Some, IfOk, IfErr, OnOk, OnErr, length}, Io.{ReadsAtMost, KnownBytes.{Consumes, ReadConsumes}}};
 ghost use Rattle.futures.specs.{Poll.{IfReady, OnPending}, Task.{Keeps}};
-ghost use Rattle.cacache_store.specs.Handles.{LeftFalls};
+ghost use Rattle.cacache_store.specs.Plain.{LeftFalls};
 ghost use Rattle.cacache_calls.specs.{declared.reply.Reply.TheVariants.{Stored}, Runs.{reply_of}};
-ghost use Rattle.cacache_sync.specs.{content.{OpenWrites.{IsRetried}, Passed.{passed}}, put.{OpenLinkers.{CommitsLink, HasHashed, HashesMore, HashesPart, StoresWhole}, Options.{saying}}};
-ghost use Rattle.cacache_async.specs.{Waiting.{Waits}, Polling.{TellsRead}};
+ghost use Rattle.cacache_sync.specs.{content.{OpenWrites.{IsRetried}, OpenReads.{passed}}, put.{OpenLinkers.{CommitsLink, HasHashed, HashesMore, HashesPart, StoresWhole}, KeyedWriters.{saying}}};
+ghost use Rattle.cacache_async.specs.{Futures.{Waits}, Polling.{TellsRead}};
 
 use crate::call::Call;
 use crate::future::{CallFuture, polling};

@@ -1,7 +1,7 @@
 //! Futures that open the target of a link.
 ghost use Rattle.std.specs.Prelude.{◌≡◌, None, Some};
 ghost use Rattle.cacache_sync.specs.put.OpenLinkers.{BeginsLink, OpensLink, OpensWithSize, asks_file, asks_size};
-ghost use Rattle.cacache_async.specs.{Waiting.{Waits}, Polling.{linker_in}, Targets.{target_asked, target_said}};
+ghost use Rattle.cacache_async.specs.{Futures.{Waits, target_asked, target_said}, Polling.{linker_in}};
 
 use crate::call::Call;
 use crate::future::CallFuture;

@@ -3,8 +3,8 @@ ghost use Rattle.std.specs.Prelude.{None, Some, IfOk};
 ghost use Rattle.cacache_calls.specs.declared.command.Command.TheVariants as commands;
 ghost use Rattle.cacache_calls.specs.{declared.reply.Reply.TheVariants.{Stored}, Linking.{based}, Runs.{reply_of}};
 ghost use Rattle.cacache_jobs.specs.Environment.{Calls, RunsTimed};
-ghost use Rattle.cacache_sync.specs.put.LinkCalls.{link_to as linked, HoldsTarget};
-ghost use Rattle.cacache_async.specs.Waiting.{Waits};
+ghost use Rattle.cacache_sync.specs.put.OpenLinkers.{link_to as linked, HoldsTarget};
+ghost use Rattle.cacache_async.specs.Futures.{Waits};
 
 use crate::call::Call;
 use crate::future::CallFuture;

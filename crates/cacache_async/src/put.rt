@@ -4,8 +4,8 @@ ghost use Rattle.cacache_core.specs.{declared.integrity.algorithm.Algorithm.TheV
 ghost use Rattle.cacache_calls.specs.declared.command.Command.TheVariants as commands;
 ghost use Rattle.cacache_calls.specs.{declared.reply.Reply.TheVariants.{Stored}, Runs.{reply_of}};
 ghost use Rattle.cacache_jobs.specs.Environment.{RunsNumbered, RunsPut};
-ghost use Rattle.cacache_sync.specs.put.Puts.{keyed_put, unkeyed_put};
-ghost use Rattle.cacache_async.specs.Waiting.{Waits};
+ghost use Rattle.cacache_sync.specs.put.KeyedWriters.{keyed_put, unkeyed_put};
+ghost use Rattle.cacache_async.specs.Futures.{Waits};
 
 use crate::call::Call;
 use crate::future::CallFuture;

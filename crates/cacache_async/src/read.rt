@@ -5,7 +5,7 @@ ghost use Rattle.cacache_calls.specs.declared.command.Command.TheVariants as com
 ghost use Rattle.cacache_calls.specs.{declared.reply.Reply.TheVariants.{Exists}, Runs.{reply_of}};
 ghost use Rattle.cacache_jobs.specs.{ReadFirst.{ReadsFound}, Environment.{Calls}};
 ghost use Rattle.cacache_sync.specs.Reads.{AsksContent, bytes_read, has};
-ghost use Rattle.cacache_async.specs.Waiting.{Waits};
+ghost use Rattle.cacache_async.specs.Futures.{Waits};
 
 use crate::call::Call;
 use crate::future::CallFuture;

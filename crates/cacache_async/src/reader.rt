@@ -1,10 +1,10 @@
 //! Open contents that are read by polls.
 ghost use Rattle.std.specs.{Prelude.{◌≡◌, ◌++◌, ℕ, List, Some, IsOk, IfOk, IfErr, OnOk, OnErr, length}, Io.{ReadsAtMost, KnownBytes.{Consumes, ReadConsumes}}};
 ghost use Rattle.futures.specs.{Poll.{IfReady, OnPending}, Task.{Keeps}};
-ghost use Rattle.cacache_core.specs.{declared.integrity.digest.Hash.{Hash}, Integrity.{Meets, strongest, actual}, Refusals.{IsCheckFailure}};
-ghost use Rattle.cacache_store.specs.Handles.{LeftFalls};
-ghost use Rattle.cacache_sync.specs.content.{OpenReads.{HasRead, OpensHash, OpensKey, ReadsMore, ReadsPart}, OpenWrites.{IsRetried}, Passed.{passed}};
-ghost use Rattle.cacache_async.specs.{Waiting.{Waits}, Polling.{TellsRead, reader_in}};
+ghost use Rattle.cacache_core.specs.{declared.integrity.digest.Hash.{Hash}, Integrity.{Meets, strongest, actual}, Errors.{IsCheckFailure}};
+ghost use Rattle.cacache_store.specs.Plain.{LeftFalls};
+ghost use Rattle.cacache_sync.specs.content.{OpenReads.{HasRead, OpensHash, OpensKey, ReadsMore, ReadsPart, passed}, OpenWrites.{IsRetried}};
+ghost use Rattle.cacache_async.specs.{Futures.{Waits}, Polling.{TellsRead, reader_in}};
 
 use crate::call::Call;
 use crate::future::{CallFuture, polling};

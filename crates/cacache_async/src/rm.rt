@@ -5,7 +5,7 @@ ghost use Rattle.cacache_calls.specs.declared.command.Command.TheVariants as com
 ghost use Rattle.cacache_calls.specs.{Replies.{done}, Runs.{reply_of}};
 ghost use Rattle.cacache_jobs.specs.Environment.{Calls, RunsTimed};
 ghost use Rattle.cacache_sync.specs.Lookups.{delete_of};
-ghost use Rattle.cacache_async.specs.Waiting.{Waits};
+ghost use Rattle.cacache_async.specs.Futures.{Waits};
 
 use crate::call::Call;
 use crate::future::CallFuture;

@@ -1,7 +1,7 @@
 //! Futures of exports that go the cheapest way that is open.
 ghost use Rattle.std.specs.Prelude.{◌≡◌, ◌≢◌, IfOk};
-ghost use Rattle.cacache_sync.specs.{declared.{exporting.Named.TheVariants.{Key, Hash}, ways.{ExportMode.TheVariants.{Own}, Exported.TheVariants.{HardLinked}}}, Exports.{named_source, IsFormed}, Ways.{ExportsTo}};
-ghost use Rattle.cacache_async.specs.Waiting.{Waits};
+ghost use Rattle.cacache_sync.specs.{declared.{exporting.Named.TheVariants.{Key, Hash}, ways.{ExportMode.TheVariants.{Own}, Exported.TheVariants.{HardLinked}}}, Exports.{named_source, IsFormed, ExportsTo}};
+ghost use Rattle.cacache_async.specs.Futures.{Waits};
 
 use crate::call::Call;
 use crate::future::CallFuture;
@@ -19,6 +19,20 @@ pub struct ExportCall<'a> {
     named: Named<'a>,
     to: &'a str,
     mode: ExportMode,
+}
+
+impl<'a> ExportCall<'a> {
+    fn of(cache: &'a str, named: Named<'a>, to: &'a str, mode: ExportMode) -> ExportCall<'a>
+        ensures { result
+            ≡ record { cache = cache.entry; named = named.entry; to = to.entry; mode = mode } }
+    {
+        ExportCall {
+            cache,
+            named,
+            to,
+            mode,
+        }
+    }
 }
 
 impl<'a, S: Store, C: Clock, N: Names> Call<S, C, N> for ExportCall<'a> {
@@ -50,16 +64,7 @@ pub fn export<'a, S: Store, C: Clock, N: Names>(
     ensures waits { Waits result env.entry
         (record { cache = cache.entry; named = Key key.entry; to = to.entry; mode = mode }) }
 {
-    let named = Named::Key(key);
-    CallFuture::new(
-        env,
-        ExportCall {
-            cache,
-            named,
-            to,
-            mode,
-        },
-    )
+    CallFuture::new(env, ExportCall::of(cache, Named::Key(key), to, mode))
 }
 
 /// `export_hash_sync` as a future, run as in the example of `read`.
@@ -73,14 +78,5 @@ pub fn export_hash<'a, S: Store, C: Clock, N: Names>(
     ensures waits { Waits result env.entry
         (record { cache = cache.entry; named = Hash sri.entry; to = to.entry; mode = mode }) }
 {
-    let named = Named::Hash(sri);
-    CallFuture::new(
-        env,
-        ExportCall {
-            cache,
-            named,
-            to,
-            mode,
-        },
-    )
+    CallFuture::new(env, ExportCall::of(cache, Named::Hash(sri), to, mode))
 }

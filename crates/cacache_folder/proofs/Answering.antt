@@ -1,18 +1,83 @@
--- What a step answers at the end of its run.
-use Rattle.std.proofs.Common.{◌≡◌, ◌+◌, ◌-◌, ℕ, Bool, true, false, if◌then◌else◌, List, [], length, arith, refl, sym, ap, subst, ◌∙◌}
-use Rattle.std.specs.{Prelude.{Option, Result, Ok, Err}, Result.{result_map_both}}
-use Rattle.std_io.specs.{IoError.{error_kind}, declared.io.{error.Error.{Error}, kind.ErrorKind.{ErrorKind}}}
+-- Which steps take no file and give none, what `?` returns, and what a step answers at the end of its run.
+use Rattle.std.proofs.Common.{◌≡◌, ℕ, true, false, List, refl, Ok, Err, sym, subst, ◌+◌, ◌-◌, Bool, if◌then◌else◌, [], length, arith, ap, ◌∙◌}
+use Rattle.std.specs.{Prelude.{Result}, Result.{IsErrAnd, result_map_both}}
+use Rattle.cacache_store.specs.{declared.store.{step.Step.{Step}, answer.Answer.{Answer}}, Plain.{PlainStep, PlainAnswer, is_no_memory}}
+use Rattle.cacache_folder.specs.{declared.folder.{opened.SystemFile.{SystemFile}, temp.SystemTemp.{SystemTemp}}, FolderNumbers.{numbered, goes_by_path, value_or, answered, answered_or}, StepClauses.{HandsBackWhole}, Moves.{Persists}, Listings.{Log}}
+use Rattle.cacache_folder.proofs.CallRuns.{run_one, run_as}
+use Rattle.std_io.specs.{declared.io.{error.Error.{Error}, kind.ErrorKind.{ErrorKind}}, IoError.{error_kind}}
+use Rattle.cacache_system.specs.{declared.call.{SystemCall.{SystemCall}, CallResult.{CallResult}}, Seen.{said, MakesCall, NumberedFile, NumberedTemp, NumberedStep, NumberedAnswer}, CallsOf.{Stage, only, making, standing, RunLogged}, AnswersOf.{no_hint, is_missing, first, answer_of, failed_with, misses, StepRuns}}
 use Rattle.cacache_store.specs.declared.store.step.Step.TheVariants as steps
 use Rattle.cacache_store.specs.declared.store.answer.Answer.TheVariants as answers
-use Rattle.cacache_system.specs.{declared.call.{SystemCall.{SystemCall}, CallResult.{CallResult}, CallItem.{CallItem}}, CallLog.{said, MakesCall}, CallsOf.{Stage, only, making, standing, RunLogged}, Seen.{NumberedFile, NumberedTemp, NumberedStep, NumberedAnswer}, AnswersOf.{Hint, no_hint, is_missing, first, answer_of, read_on, failed_with, misses, StepRuns}}
-use Rattle.cacache_system.specs.declared.call.SystemCall.TheVariants as asks
 use Rattle.cacache_system.specs.declared.call.CallResult.TheVariants as says
-use Rattle.cacache_store.specs.declared.store.answer.Answer.{Answer}
-use Rattle.cacache_folder.specs.{declared.folder.{opened.SystemFile.{SystemFile}, temp.SystemTemp.{SystemTemp}}, FolderNumbers.{value_or, answered, answered_or}, Moves.{Persists}}
-use Rattle.cacache_folder.proofs.CallRuns.{run_one, run_as}
 
-abbrev Log : Type 0
-Log = Option (List CallItem)
+-- what isn't a step of a file
+pub by_path : {Y F D : Type 0} (number : F → ℕ) (step : Step (SystemFile Y F D) (SystemTemp Y F D))
+    → ((a : List ℕ) → step ≡ steps.CreateTemp a → ⊥)
+    → ((a : SystemTemp Y F D) (b : List ℕ) → step ≡ steps.Write a b → ⊥)
+    → ((a : SystemTemp Y F D) (b : List ℕ) → step ≡ steps.Persist a b → ⊥)
+    → ((a : List ℕ) → step ≡ steps.Open a → ⊥)
+    → ((a : SystemFile Y F D) (b : ℕ) → step ≡ steps.Read a b → ⊥)
+    → ((a : SystemTemp Y F D) → step ≡ steps.SyncTemp a → ⊥)
+    → goes_by_path (numbered number step) ≡ true
+by_path number (steps.CreateTemp a) h0 h1 h2 h3 h4 h5 = absurd (h0 a refl)
+by_path number (steps.Write a b) h0 h1 h2 h3 h4 h5 = absurd (h1 a b refl)
+by_path number (steps.Persist a b) h0 h1 h2 h3 h4 h5 = absurd (h2 a b refl)
+by_path number (steps.Open a) h0 h1 h2 h3 h4 h5 = absurd (h3 a refl)
+by_path number (steps.Read a b) h0 h1 h2 h3 h4 h5 = absurd (h4 a b refl)
+by_path number (steps.SyncTemp a) h0 h1 h2 h3 h4 h5 = absurd (h5 a refl)
+by_path number step _ _ _ _ _ _ = refl
+
+-- what isn't any other step
+pub by_file : {Y F D : Type 0} (number : F → ℕ) (step : Step (SystemFile Y F D) (SystemTemp Y F D))
+    → ((a : List ℕ) → step ≡ steps.MakeDirs a → ⊥)
+    → ((a : List ℕ) (b : List ℕ) → step ≡ steps.Append a b → ⊥)
+    → ((a : List ℕ) → step ≡ steps.ReadAll a → ⊥)
+    → ((a : List ℕ) → step ≡ steps.Exists a → ⊥)
+    → ((a : List ℕ) → step ≡ steps.Size a → ⊥)
+    → ((a : List ℕ) (b : List ℕ) → step ≡ steps.Symlink a b → ⊥)
+    → ((a : List ℕ) (b : List ℕ) → step ≡ steps.Copy a b → ⊥)
+    → ((a : List ℕ) (b : List ℕ) → step ≡ steps.Reflink a b → ⊥)
+    → ((a : List ℕ) (b : List ℕ) → step ≡ steps.HardLink a b → ⊥)
+    → ((a : List ℕ) → step ≡ steps.ReadDir a → ⊥)
+    → ((a : List ℕ) → step ≡ steps.RemoveFile a → ⊥)
+    → ((a : List ℕ) → step ≡ steps.RemoveDir a → ⊥)
+    → ((a : List ℕ) → step ≡ steps.SyncFile a → ⊥)
+    → ((a : List ℕ) → step ≡ steps.SyncDir a → ⊥)
+    → goes_by_path (numbered number step) ≡ true → ⊥
+by_file number (steps.MakeDirs a) h0 h1 h2 h3 h4 h5 h6 h7 h8 h9 h10 h11 h12 h13 is = absurd (h0 a refl)
+by_file number (steps.Append a b) h0 h1 h2 h3 h4 h5 h6 h7 h8 h9 h10 h11 h12 h13 is = absurd (h1 a b refl)
+by_file number (steps.ReadAll a) h0 h1 h2 h3 h4 h5 h6 h7 h8 h9 h10 h11 h12 h13 is = absurd (h2 a refl)
+by_file number (steps.Exists a) h0 h1 h2 h3 h4 h5 h6 h7 h8 h9 h10 h11 h12 h13 is = absurd (h3 a refl)
+by_file number (steps.Size a) h0 h1 h2 h3 h4 h5 h6 h7 h8 h9 h10 h11 h12 h13 is = absurd (h4 a refl)
+by_file number (steps.Symlink a b) h0 h1 h2 h3 h4 h5 h6 h7 h8 h9 h10 h11 h12 h13 is = absurd (h5 a b refl)
+by_file number (steps.Copy a b) h0 h1 h2 h3 h4 h5 h6 h7 h8 h9 h10 h11 h12 h13 is = absurd (h6 a b refl)
+by_file number (steps.Reflink a b) h0 h1 h2 h3 h4 h5 h6 h7 h8 h9 h10 h11 h12 h13 is = absurd (h7 a b refl)
+by_file number (steps.HardLink a b) h0 h1 h2 h3 h4 h5 h6 h7 h8 h9 h10 h11 h12 h13 is = absurd (h8 a b refl)
+by_file number (steps.ReadDir a) h0 h1 h2 h3 h4 h5 h6 h7 h8 h9 h10 h11 h12 h13 is = absurd (h9 a refl)
+by_file number (steps.RemoveFile a) h0 h1 h2 h3 h4 h5 h6 h7 h8 h9 h10 h11 h12 h13 is = absurd (h10 a refl)
+by_file number (steps.RemoveDir a) h0 h1 h2 h3 h4 h5 h6 h7 h8 h9 h10 h11 h12 h13 is = absurd (h11 a refl)
+by_file number (steps.SyncFile a) h0 h1 h2 h3 h4 h5 h6 h7 h8 h9 h10 h11 h12 h13 is = absurd (h12 a refl)
+by_file number (steps.SyncDir a) h0 h1 h2 h3 h4 h5 h6 h7 h8 h9 h10 h11 h12 h13 is = absurd (h13 a refl)
+by_file number step _ _ _ _ _ _ _ _ _ _ _ _ _ _ is = absurd (let no_way : false ≡ true = is in cc)
+
+-- an answer that isn't the step handed back
+pub whole_of : (step : PlainStep) (answer : PlainAnswer) → is_no_memory answer ≡ false → HandsBackWhole step answer
+whole_of step (answers.NoMemory back) is = absurd (let no_way : true ≡ false = is in cc)
+whole_of step _ is = tt
+
+-- ---- what `?` returns
+
+-- what holds of the error that a call gave holds of what `?` returns
+pub failed_as : {T : Type 0} (P : Result T Error → Type 0) (r : Result T Error) (e : Error) → IsErrAnd r (λ x. x ≡ e) → P (Err e) → P r
+failed_as P (Ok x) e same p = absurd same
+failed_as P (Err x) e same p = subst (λ (y : Error). P (Err y)) (sym same) p
+
+-- what holds of each error of a kind holds of what `?` returns, if it makes one of that kind
+pub failed_so : {T : Type 0} (P : Result T Error → Type 0) (Q : Error → Type 0) (r : Result T Error) → IsErrAnd r Q → ((e : Error) → Q e → P (Err e)) → P r
+failed_so P Q (Ok x) so f = absurd so
+failed_so P Q (Err x) so f = f x so
+
+-- ---- what a step answers at the end of its run
 
 -- the run of a step about which nothing is remembered
 pub answers_run : (step : NumberedStep) (answer : NumberedAnswer) (s : Stage) (end : CallResult) (old new : Log)
@@ -86,7 +151,7 @@ pub read_failed : (number same left rest max : ℕ) (why : ErrorKind) (answer : 
 read_failed number same left rest max why answer is stays told =
     told ∙ ap (λ (n : ℕ). failed_with (reads n rest max) why) is ∙ ap (λ (n : ℕ). failed_with (reads number n max) why) stays
 
-value_is : {A : Type 0} (step : NumberedStep) (say : A → CallResult) (give : A → NumberedAnswer) (r : Result A Error)
+pub value_is : {A : Type 0} (step : NumberedStep) (say : A → CallResult) (give : A → NumberedAnswer) (r : Result A Error)
     → ((value : A) → give value ≡ answer_of step (say value)) → ((why : ErrorKind) → failed_with step why ≡ answer_of step (says.Failed why))
     → value_or give step r ≡ answer_of step (said say r)
 value_is step say give (Ok value) gives fails = gives value

@@ -1,13 +1,10 @@
 -- Runs of system calls are put together call by call.
 use Rattle.std.proofs.Common.{◌≡◌, ℕ, zero, suc, Bool, true, false, if◌then◌else◌, List, [], ◌∷◌, ◌++◌, refl, sym, ap, subst, ◌∙◌, inl, inr}
-use Rattle.std.specs.Prelude.{Option, None, Some, option_map}
+use Rattle.std.specs.Prelude.{None, Some, option_map}
 use Rattle.std_io.specs.declared.io.kind.ErrorKind.{ErrorKind}
 use Rattle.std_io.specs.declared.io.kind.ErrorKind.TheVariants as kind
-use Rattle.cacache_system.specs.{declared.call.{SystemCall.{SystemCall, TheVariants.{Read}}, CallResult.{CallResult, TheVariants.{Failed}}, CallItem.{CallItem}}, CallLog.{item, GainsCalls, MakesCall}, CallsOf.{Stage, over, trying, taking_memory, reading_front, wants, after, interrupts, was_interrupted, Ends, Runs, Goes, RunLogged, CallsLogged}}
-use Rattle.cacache_folder.specs.Interruptions.{interrupted, Waits, Insists}
-
-abbrev Log : Type 0
-Log = Option (List CallItem)
+use Rattle.cacache_system.specs.{declared.call.{SystemCall.{SystemCall, TheVariants.{Read}}, CallResult.{CallResult, TheVariants.{Failed}}, CallItem.{CallItem}}, Seen.{item, GainsCalls, MakesCall}, CallsOf.{Stage, over, trying, taking_memory, reading_front, wants, after, interrupts, Ends, Runs, Goes, RunLogged, CallsLogged}}
+use Rattle.cacache_folder.specs.{Goings.{interrupted, Waits, Insists}, Listings.{Log}}
 
 append-nil : (xs : List CallItem) → xs ++ [] ≡ xs
 append-nil [] = refl
@@ -51,10 +48,6 @@ goes_on : (s t u : Stage) (xs ys : List CallItem) → Goes s xs t → Goes t ys 
 goes_on s t u [] ys is goes = subst (λ (x : Stage). Goes x ys u) (sym is) goes
 goes_on s t u (x ∷ xs) ys (wanted, first) goes = (wanted, goes_on (after s x.result) t u xs ys first goes)
 
--- no call was made yet
-pub calls_none : (s : Stage) (log : Log) → CallsLogged s s log log
-calls_none s log = ([], refl, gains_none log)
-
 -- one call
 pub calls_one : (s t : Stage) (call : SystemCall) (result : CallResult) (old new : Log)
     → MakesCall old new call result → wants s ≡ Some call → after s result ≡ t → CallsLogged s t old new
@@ -92,10 +85,6 @@ run_refused s log = run_none (taking_memory s) (Failed kind.OutOfMemory) log (in
 interrupted-more : (call : SystemCall) (n : ℕ) → interrupted call n ++ item call (Failed kind.Interrupted) ∷ [] ≡ interrupted call (suc n)
 interrupted-more call zero = refl
 interrupted-more call (suc n) = ap (λ items. item call (Failed kind.Interrupted) ∷ items) (interrupted-more call n)
-
--- no signal yet
-pub waits_none : (call : SystemCall) (log : Log) → Waits call log log
-waits_none call log = (zero, gains_none log)
 
 pub interrupted_only : (why : ErrorKind) → interrupts why ≡ true → why ≡ kind.Interrupted
 interrupted_only kind.Interrupted is = refl

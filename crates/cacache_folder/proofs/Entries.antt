@@ -1,14 +1,14 @@
 -- The entries of a listing, name by name.
-use Rattle.std.proofs.{Common.{◌≡◌, ◌≢◌, ◌==◌, ◌||◌, ◌&&◌, not, ◌⊎◌, suc, ◌<◌, ◌≤◌, ◌+◌, ◌-◌, ◌↔◌, ℕ, Bool, true, false, if◌then◌else◌, List, [], ◌∷◌, ◌++◌, length, take, drop, length-drop, refl, sym, ap, subst, ◌∙◌, inl, inr, arith}, lemmas.{Str.{is_utf8-from_IsUtf8, IsUtf8-from_is_utf8}, List.{take_all, nil_from_length, Splits.{slice_split-cons_no, slice_split_first}}, Bool.Decides.{leb_tells}}, Math.Dec.{leb}}
-use Rattle.std.specs.{Prelude.{Option, None, Some, Result, Ok, Err, OnOk, IfOk, IfErr, IsTrue, IsUtf8}, Bool.{nat_eq}, List.{starts_with, list_any, position, prefix_len, position_or_len, onto_first}, Str.{is_utf8}, Option.{unwrap_or}}
+use Rattle.std.proofs.{Common.{◌≡◌, ◌==◌, ◌||◌, ◌&&◌, not, ◌⊎◌, suc, ◌<◌, ◌≤◌, ◌+◌, ◌-◌, ◌↔◌, ℕ, Bool, true, false, if◌then◌else◌, List, [], ◌∷◌, ◌++◌, length, take, drop, length-drop, refl, sym, ap, subst, ◌∙◌, inl, inr, arith}, lemmas.{Str.{is_utf8-from_IsUtf8, IsUtf8-from_is_utf8}, List.{take_all, nil_from_length, Splits.{slice_split-cons_no, slice_split_first}}, Bool.Decides.{leb_tells}}, Math.Dec.{leb}}
+use Rattle.std.specs.{Prelude.{Option, None, Some, Result, Ok, Err, OnOk, IfErr, IsTrue, IsUtf8}, Bool.{nat_eq}, List.{starts_with, list_any, position, prefix_len, position_or_len, onto_first}, Str.{is_utf8}, Option.{unwrap_or}}
 use Rattle.hex.specs.Hex.{encode_lower}
 use Rattle.std_io.specs.declared.io.kind.ErrorKind.{ErrorKind}
 use Rattle.std_io.specs.declared.io.kind.ErrorKind.TheVariants as kind
-use Rattle.cacache_core.specs.PathNames.{is_name, is_above, ends_name, IsProperName}
+use Rattle.cacache_core.specs.Paths.{is_name, is_above, ends_name, IsProperName}
 use Rattle.cacache_store.specs.declared.store.answer.{Kind.{Kind, TheVariants.{File}}, Name.{Name}}
-use Rattle.cacache_system.specs.{declared.call.CallResult.TheVariants.{Failed}, ListedNames.{mark, is_odd, text_of, is_proper, is_passed, names_in}, CallsOf.{Stage, Reader, over, taking_memory, asking_kind, entered, ask_kind, next_name, more_names, RunLogged}}
-use Rattle.cacache_folder.specs.Listings.{Log, LeadsTo, Proceeds, NamesEntry, EntersName, entering, with_kind, AsksKind, AsksKindIfText, FindsKind, ListsName, ListsNames, CutsName}
-use Rattle.cacache_folder.proofs.Listings.{leads_none, leads_on, leads_run, leads_as, leads_same, leads_took, run_taken, refused, fails, proceeds_on, proceeds_from}
+use Rattle.cacache_system.specs.{declared.call.CallResult.TheVariants.{Failed}, Seen.{mark, is_odd, text_of, is_proper, is_passed, names_in}, CallsOf.{Stage, Reader, over, taking_memory, asking_kind, entered, ask_kind, next_name, more_names, RunLogged}}
+use Rattle.cacache_folder.specs.Listings.{Log, LeadsTo, NamesEntry, EntersName, entering, with_kind, AsksKind, AsksKindIfText, FindsKind, ListsName, CutsName}
+use Rattle.cacache_folder.proofs.Listings.{leads_on, leads_run, leads_as, leads_same, leads_took, refused, fails, proceeds_on, proceeds_from}
 
 -- ---- texts of names
 

@@ -1,14 +1,14 @@
 -- Folders that are opened and listed.
-use Rattle.std.proofs.{Common.{◌≡◌, ◌≢◌, ◌==◌, not, ◌⊎◌, ◌<◌, ◌≤◌, ◌+◌, ◌-◌, ◌^◌, ℕ, Bool, true, false, if◌then◌else◌, List, [], ◌∷◌, ◌++◌, length, refl, sym, ap, subst, ◌∙◌, inl, inr, arith}, lemmas.Bool.Decides.{eqb_tells}}
-use Rattle.std.specs.Prelude.{Option, None, Some, Result, Ok, Err}
+use Rattle.std.proofs.{Common.{◌≡◌, ◌≢◌, ◌==◌, ◌⊎◌, ◌-◌, ◌^◌, ℕ, Bool, true, false, if◌then◌else◌, List, [], length, refl, sym, ap, subst, ◌∙◌, inl, inr}, lemmas.Bool.Decides.{eqb_tells}}
+use Rattle.std.specs.Prelude.{Result, Ok, Err}
 use Rattle.std_io.specs.declared.io.kind.ErrorKind.{ErrorKind}
 use Rattle.std_io.specs.declared.io.kind.ErrorKind.TheVariants as kind
 use Rattle.cacache_store.specs.declared.store.step.Step.TheVariants as steps
 use Rattle.cacache_store.specs.declared.store.answer.Answer.TheVariants as answers
 use Rattle.cacache_store.specs.declared.store.answer.Name.{Name}
-use Rattle.cacache_system.specs.{declared.call.{SystemCall.TheVariants.{OpenFolder, ReadNames}, CallResult.{CallResult, TheVariants.{Opened, Bytes, Failed, Names}}}, CallLog.{MakesCall}, ListedNames.{names_in, with_slash}, CallsOf.{Stage, Reader, over, taking_memory, opening_folder, following, reading_names, reader, read_once, more_names, next_name, names_read, broken_off, is_no_folder, unopened, RunLogged}, Seen.{NumberedAnswer}, AnswersOf.{no_hint, list, answer_of, failed_with, StepRuns}}
-use Rattle.cacache_folder.specs.{Interruptions.{Insists}, Listings.{Log, LeadsTo, Proceeds, ListsNames, ReadsNames, ReadsAllNames, OpensFolder, ListsFolder, listed, more_if, reader_of}}
-use Rattle.cacache_folder.proofs.{CallRuns.{run_none}, Listings.{leads_none, leads_on, leads_run, leads_as, leads_same, leads_call, leads_took, run_taken, refused, fails, proceeds_on, proceeds_from, names_leads, names_fails}}
+use Rattle.cacache_system.specs.{declared.call.{SystemCall.TheVariants.{OpenFolder, ReadNames}, CallResult.{CallResult, TheVariants.{Bytes, Failed, Names}}}, Seen.{MakesCall, names_in, with_slash, NumberedAnswer}, CallsOf.{Stage, Reader, over, taking_memory, opening_folder, following, reading_names, reader, read_once, more_names, next_name, names_read, broken_off, is_no_folder, unopened, RunLogged}, AnswersOf.{no_hint, list, answer_of, failed_with, StepRuns}}
+use Rattle.cacache_folder.specs.{Goings.{Insists}, Listings.{Log, LeadsTo, ListsNames, ReadsNames, ReadsAllNames, OpensFolder, ListsFolder, listed, reader_of}}
+use Rattle.cacache_folder.proofs.{CallRuns.{run_none}, Listings.{leads_on, leads_run, leads_as, leads_call, leads_took, run_taken, fails, proceeds_on, proceeds_from, names_leads, names_fails}}
 
 -- a number that isn't 0
 pub not_empty : (n : ℕ) → false ≡ (n == 0) → n ≢ 0
@@ -147,18 +147,6 @@ pub lists_not : {F : Type 0} (number : F → ℕ) (path : List ℕ) (why : Error
     → OpensFolder {F = F} number (opening_folder path) path (Err why) old new → RunLogged (list path) (Failed why) old new
 lists_not number path why old new some opens =
     subst (λ (s : Stage). RunLogged s (Failed why) old new) (sym (list_is path some)) (run_taken (opening_folder path) (Failed why) old new opens)
-
--- memory is refused for its path
-pub lists_refused : {A : Type 0} (path : List ℕ) (names : A → List Name) (why : ErrorKind) (log : Log) → length path ≢ 0 → why ≡ kind.OutOfMemory
-    → ListsFolder {A = A} (list path) names (Err why) log log
-lists_refused path names why log some is =
-    subst (λ (s : Stage). RunLogged s (Failed why) log log) (sym (list_is path some)) (refused (opening_folder path) why log is)
-
--- an empty path leads nowhere
-pub lists_nowhere : {A : Type 0} (path : List ℕ) (names : A → List Name) (log : Log) → length path ≡ 0
-    → ListsFolder {A = A} (list path) names (Err kind.NotFound) log log
-lists_nowhere path names log is =
-    fails (list path) kind.NotFound log (ap (λ (n : ℕ). if n == 0 then over (Failed kind.NotFound) else taking_memory (opening_folder path)) is)
 
 -- ---- listings
 

@@ -1,11 +1,10 @@
 -- Listings are put together call by call.
-use Rattle.std.proofs.Common.{◌≡◌, ◌≢◌, ◌==◌, ◌⊎◌, ℕ, zero, suc, Bool, true, false, if◌then◌else◌, List, [], ◌∷◌, ◌++◌, length, refl, sym, ap, subst, ◌∙◌, inl, inr}
-use Rattle.std.specs.Prelude.{Option, None, Some, Result, Ok, Err}
+use Rattle.std.{proofs.Common.{◌≡◌, ℕ, zero, suc, Bool, true, false, if◌then◌else◌, List, [], ◌∷◌, ◌++◌, refl, sym, ap, subst, inr}, specs.Prelude.{Some, Result, Ok, Err}}
 use Rattle.std_io.specs.declared.io.kind.ErrorKind.{ErrorKind}
 use Rattle.std_io.specs.declared.io.kind.ErrorKind.TheVariants as kind
 use Rattle.cacache_store.specs.declared.store.answer.Name.{Name}
-use Rattle.cacache_system.specs.{declared.call.{SystemCall.{SystemCall, TheVariants.{ReadNames}}, CallResult.{CallResult, TheVariants.{Bytes, Failed, Names}}, CallItem.{CallItem}}, CallLog.{item, GainsCalls, MakesCall}, CallsOf.{Stage, Reader, over, taking_memory, reading_names, names_read, broken_off, wants, after, interrupts, Ends, Runs, Goes, RunLogged, CallsLogged}}
-use Rattle.cacache_folder.specs.{Interruptions.{interrupted, Insists}, Listings.{Log, LeadsTo, Proceeds, listed}}
+use Rattle.cacache_system.specs.{declared.call.{SystemCall.{SystemCall, TheVariants.{ReadNames}}, CallResult.{CallResult, TheVariants.{Bytes, Failed}}, CallItem.{CallItem}}, Seen.{item, MakesCall}, CallsOf.{Stage, Reader, over, taking_memory, reading_names, names_read, broken_off, wants, after, interrupts, Ends, Runs, Goes, RunLogged, CallsLogged}}
+use Rattle.cacache_folder.specs.{Goings.{interrupted, Insists}, Listings.{Log, LeadsTo, Proceeds}}
 use Rattle.cacache_folder.proofs.CallRuns.{append-more, gains_none, gains_more, goes_run, run_none, run_as, run_call, run_refused, calls_end, interrupted_only}
 
 -- nothing was called

@@ -1,14 +1,31 @@
--- Files that are read whole, and pieces of open files.
-use Rattle.std.proofs.{Common.{◌≡◌, ◌≢◌, ◌==◌, ◌&&◌, not, ◌⊎◌, ◌<◌, ◌≤◌, ℕ, Bool, true, false, if◌then◌else◌, List, [], ◌∷◌, ◌++◌, take, drop, length, min, refl, sym, ap, subst, ◌∙◌, inl, inr, arith, take-append-drop, ◌+◌, ◌-◌, length-take-le, eq-eqb}, lemmas.{Bool.Decides.{eqb_tells}, List.{take-append-le, take-take}}}
-use Rattle.std.specs.{Prelude.{Option, Result, Ok, Err}, Io.{StartsWith, appended_bytes}}
-use Rattle.std_io.specs.declared.io.kind.ErrorKind.{ErrorKind}
+-- Reads of open files by their handles, files that are read whole, and pieces of open files.
+use Rattle.std.proofs.{Common.{◌≡◌, ◌==◌, ◌&&◌, not, ℕ, Bool, true, false, if◌then◌else◌, min, sym, ap, subst, ◌∙◌, ◌≢◌, ◌⊎◌, ◌≤◌, List, ◌++◌, take, drop, length, refl, inl, inr, arith, take-append-drop, ◌+◌, ◌-◌, length-take-le, eq-eqb}, lemmas.{Bool.Decides.{eqb_tells}, List.{take-append-le, take-take}}}
+use Rattle.std.specs.Io.{StartsWith, appended_bytes}
+use Rattle.std_io.specs.declared.io.kind.ErrorKind.{ErrorKind, TheVariants.{FileTooLarge}}
+use Rattle.cacache_system.specs.{declared.call.{SystemCall.TheVariants.{Read, ReadRest}, CallResult.{CallResult, TheVariants.{Failed, Bytes}}}, CallsOf.{Stage, over, trying, Ends, RunLogged, taking_memory, reading_front, front_known, measuring, reading_rest, interrupts, after}, Seen.{NumberedFile, MakesCall}, AnswersOf.{read_piece}}
+use Rattle.cacache_folder.specs.{HandleRuns.{reading}, Goings.{Insists}, Listings.{Log}}
+use Rattle.cacache_folder.proofs.CallRuns.{run_none, run_as, insists_run, run_call, run_took, run_refused, calls_end, calls_run, insists_front, interrupted_only}
 use Rattle.std_io.specs.declared.io.kind.ErrorKind.TheVariants as kind
-use Rattle.cacache_system.specs.{declared.call.{SystemCall.TheVariants.{Read, ReadRest}, CallResult.{CallResult, TheVariants.{Bytes, Failed}}, CallItem.{CallItem}}, CallLog.{MakesCall}, CallsOf.{Stage, over, trying, taking_memory, reading_front, front_known, measuring, reading_rest, interrupts, after, Ends, RunLogged, CallsLogged}, Seen.{NumberedFile}, AnswersOf.{read_piece}}
-use Rattle.cacache_folder.specs.Interruptions.{Insists}
-use Rattle.cacache_folder.proofs.CallRuns.{run_call, run_none, run_took, run_refused, run_as, calls_end, calls_run, insists_run, insists_front, interrupted_only}
 
-abbrev Log : Type 0
-Log = Option (List CallItem)
+abbrev reading_if : Bool → NumberedFile → ℕ → Stage
+reading_if b file room = if b then over (Failed FileTooLarge) else trying false (Read file.number (min room file.left))
+
+-- a file that gives no more is asked for nothing
+pub reading_over : (file : NumberedFile) (room : ℕ) (b : Bool) (why : ErrorKind) (log : Log) → b ≡ (file.left == 0 && not (room == 0)) → b ≡ true → why ≡ FileTooLarge
+    → RunLogged (reading file room) (Failed why) log log
+reading_over file room b why log is said so =
+    run_none (reading file room) (Failed why) log
+    (subst (λ (x : Bool). Ends (reading_if x file room) (Failed why)) (sym said ∙ is) (ap Failed (sym so)))
+
+-- another one is asked for as many bytes as there is room for, but no more than are left
+pub reading_run : (file : NumberedFile) (room size : ℕ) (b : Bool) (end : CallResult) (old new : Log) → b ≡ (file.left == 0 && not (room == 0)) → b ≡ false
+    → size ≡ min room file.left → Insists (Read file.number size) end old new → RunLogged (reading file room) end old new
+reading_run file room size b end old new is said sized insists =
+    subst (λ (x : Bool). RunLogged (reading_if x file room) end old new) (sym said ∙ is)
+    (run_as (trying false (Read file.number size)) (trying false (Read file.number (min room file.left))) end old new
+    (insists_run (Read file.number size) end old new insists) (ap (λ (n : ℕ). trying false (Read file.number n)) sized))
+
+-- ---- files that are read whole, and pieces of open files
 
 whole_is : (front whole : List ℕ) → StartsWith whole front → whole ≡ front ++ appended_bytes front whole
 whole_is front whole starts = sym (take-append-drop (length front) whole) ∙ ap (λ (xs : List ℕ). xs ++ drop (length front) whole) starts

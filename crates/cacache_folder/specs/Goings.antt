@@ -1,7 +1,7 @@
--- Where calls that end here or go on lead.
-use Rattle.std.specs.Prelude.{ℕ, Bool, false, Option, None, Some, Result, Ok, Err, List, [], if◌then◌else◌}
-use Rattle.std_io.specs.{declared.io.{error.Error.{Error}, kind.ErrorKind.{ErrorKind}}, IoError.{error_kind}}
-use Rattle.cacache_system.specs.{declared.call.{CallItem.{CallItem}, CallResult.{CallResult, TheVariants.{Opened, Failed}}, FileInfo.{FileInfo}, SystemCall.TheVariants.{Read}}, CallLog.{said}, CallsOf.{Stage, Purpose, over, trying, taking_memory, opening, opened, standing, making, confirming, below, unmade, is_absent, CallsLogged, RunLogged}}
+-- Where calls that end here or go on lead, and calls that signals interrupt.
+use Rattle.std.specs.Prelude.{ℕ, Bool, false, Option, None, Some, Result, Ok, Err, List, [], if◌then◌else◌, zero, suc, ◌∷◌, ◌++◌}
+use Rattle.std_io.specs.{declared.io.{error.Error.{Error}, kind.ErrorKind.{ErrorKind, TheVariants.{Interrupted}}}, IoError.{error_kind}}
+use Rattle.cacache_system.specs.{declared.call.{CallItem.{CallItem}, CallResult.{CallResult, TheVariants.{Opened, Failed}}, FileInfo.{FileInfo}, SystemCall.{TheVariants.{Read}, SystemCall}}, Seen.{said, item, GainsCalls}, CallsOf.{Stage, Purpose, over, trying, taking_memory, opening, opened, standing, making, confirming, below, unmade, is_absent, CallsLogged, RunLogged}}
 
 -- the stage, unless there is a cause against it
 abbrev pub unless : Option ErrorKind → Stage → Stage
@@ -51,3 +51,20 @@ abbrev pub Confirms : {A : Type 0} → List ℕ → ErrorKind → Result A Error
 Confirms path why result old new =
     (todo : List (List ℕ)) → CallsLogged (confirming why path todo)
     (onward (λ _. below todo) result) old new
+
+-- ---- calls that signals interrupt
+
+-- the call, which a signal interrupts so often
+abbrev pub interrupted : SystemCall → ℕ → List CallItem
+interrupted call zero = []
+interrupted call (suc n) = item call (Failed Interrupted) ∷ interrupted call n
+
+-- a log that is kept gained nothing but interruptions of this call
+abbrev pub Waits : SystemCall → Option (List CallItem) → Option (List CallItem) → Type 0
+Waits call old new = (n : ℕ) × GainsCalls old new (interrupted call n)
+
+-- the call was made until no signal interrupted it, or it was given up
+abbrev pub Insists : SystemCall → CallResult → Option (List CallItem)
+    → Option (List CallItem) → Type 0
+Insists call result old new =
+    (n : ℕ) × GainsCalls old new (interrupted call n ++ item call result ∷ [])

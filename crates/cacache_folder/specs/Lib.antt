@@ -1,8 +1,4 @@
 pub mod FolderHandles
-pub mod PartialSteps
-pub mod Escaped
-pub mod Reasons
-pub mod Interruptions
 pub mod FolderNumbers
 pub mod Goings
 pub mod HandleRuns
@@ -10,4 +6,3 @@ pub mod Moves
 pub mod Listings
 pub mod StepClauses
 pub mod StepsMade
-pub mod CallsByLog

@@ -1,8 +1,9 @@
--- Listings of folders call by call.
-use Rattle.std.specs.Prelude.{◌≡◌, ◌⊎◌, ◌^◌, ◌-◌, ℕ, Bool, false, if◌then◌else◌, List, [], ◌∷◌, ◌++◌, Option, None, Some, Result, Ok, Err}
+-- Listings of folders call by call, and names of any bytes as texts.
+use Rattle.std.specs.{Prelude.{◌≡◌, ◌⊎◌, ◌^◌, ◌-◌, ℕ, Bool, false, if◌then◌else◌, List, [], ◌∷◌, ◌++◌, Option, None, Some, Result, Ok, Err, drop}, Bool.{nat_eq}, List.{starts_with}}
 use Rattle.std_io.specs.declared.io.kind.ErrorKind.{ErrorKind}
 use Rattle.cacache_store.specs.declared.store.answer.{Kind.{Kind}, Name.{Name}}
-use Rattle.cacache_system.specs.{declared.call.{CallItem.{CallItem}, CallResult.{CallResult, TheVariants.{Names, Failed}}}, CallLog.{GainsCalls}, ListedNames.{names_in, with_slash}, CallsOf.{Stage, Reader, over, taking_memory, opening_folder, following, reading_names, asking_kind, reader, read_once, more_names, entered, ask_kind, next_name, Runs, RunLogged}}
+use Rattle.cacache_system.specs.{declared.call.{CallItem.{CallItem}, CallResult.{CallResult, TheVariants.{Names, Failed}}}, Seen.{GainsCalls, names_in, with_slash, mark}, CallsOf.{Stage, Reader, over, taking_memory, opening_folder, reading_names, asking_kind, reader, read_once, more_names, entered, ask_kind, next_name, Runs, RunLogged}}
+use Rattle.hex.specs.{declared.error.FromHexError.{FromHexError}, Hex.{decode_of}}
 
 -- the log of a system
 abbrev pub Log : Type 0
@@ -132,3 +133,14 @@ OpensPath number path folder result old new =
 abbrev pub ListsFolder : {A : Type 0} → Stage → (A → List Name) → Result A ErrorKind → Log → Log
     → Type 0
 ListsFolder s names result old new = Proceeds s (λ value. listed (names value)) result old new
+
+-- ---- names of any bytes as texts
+
+abbrev pub or_itself : List ℕ → Result (List ℕ) FromHexError → List ℕ
+or_itself name (Ok bytes) = bytes
+or_itself name (Err e) = name
+
+-- the bytes that a name's text stands for: those of its digits after the mark, or the text's own
+abbrev pub raw_name : List ℕ → List ℕ
+raw_name name =
+    if starts_with nat_eq name mark then or_itself name (decode_of (drop 256 name)) else name

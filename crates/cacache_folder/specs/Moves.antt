@@ -1,11 +1,8 @@
 -- Moves of temporary files.
-use Rattle.std.specs.Prelude.{ℕ, Bool, List, Option, Result}
+use Rattle.std.specs.Prelude.{ℕ, Bool, List, Result}
 use Rattle.std_io.specs.declared.io.error.Error.{Error}
-use Rattle.cacache_system.specs.{declared.call.{CallItem.{CallItem}, CallResult.TheVariants.{Done}}, CallLog.{said}, CallsOf.{Stage, CallsLogged, RunLogged}, Seen.{NumberedTemp}, AnswersOf.{Hint, rewrites, persist}}
-use Rattle.cacache_folder.specs.Goings.{onward}
-
-abbrev Log : Type 0
-Log = Option (List CallItem)
+use Rattle.cacache_system.specs.{declared.call.CallResult.TheVariants.{Done}, Seen.{said, NumberedTemp}, CallsOf.{Stage, CallsLogged, RunLogged}, AnswersOf.{Hint, rewrites, persist}}
+use Rattle.cacache_folder.specs.{Goings.{onward}, Listings.{Log}}
 
 -- the calls that come before any stage were made, and it goes on or fails
 abbrev pub GoesBefore : {A : Type 0} → (Stage → Stage) → Result A Error → Log → Log → Type 0

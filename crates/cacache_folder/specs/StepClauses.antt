@@ -1,9 +1,29 @@
--- What steps of real folders answer, in the words of their clauses.
-use Rattle.std.specs.Prelude.{◌≡◌, ℕ, true, List, Option, Result}
+-- What steps of real folders answer, in the words of their clauses; why one failed, and which may change something and then fail.
+use Rattle.std.specs.{Prelude.{◌≡◌, Bool, true, false, ℕ, List, Option, Result, Some, IsSomeAnd, ⊤}, declared.io.ErrorKind.{ErrorKind}}
+use Rattle.cacache_store.specs.{declared.store.{step.Step.{TheVariants.{MakeDirs, CreateTemp, Append, Copy, SyncTemp, SyncFile, SyncDir}, Step}, answer.Answer.{TheVariants.{NoMemory, Failed}, Answer}}, Plain.{PlainStep, PlainAnswer, plain_step, plain_answer, Fits}}
 use Rattle.std_io.specs.declared.io.error.Error.{Error}
-use Rattle.cacache_store.specs.{declared.store.{step.Step.{Step}, answer.Answer.{Answer}}, Plain.{plain_step, plain_answer}, Fits.{Fits}}
 use Rattle.cacache_system.specs.{declared.call.{CallItem.{CallItem}, CallResult.{CallResult}}, Seen.{NumberedStep, NumberedAnswer}, AnswersOf.{StepRuns, answer_of}}
-use Rattle.cacache_folder.specs.{declared.folder.{opened.SystemFile.{SystemFile}, temp.SystemTemp.{SystemTemp}}, FolderHandles.{seen_file, seen_temp}, FolderNumbers.{numbered, answered, answered_or, value_or, goes_by_path}, PartialSteps.{HandsBackWhole}}
+use Rattle.cacache_folder.specs.{declared.folder.{opened.SystemFile.{SystemFile}, temp.SystemTemp.{SystemTemp}}, FolderHandles.{seen_file, seen_temp}, FolderNumbers.{numbered, answered, answered_or, value_or, goes_by_path}}
+use Rattle.cacache_core.specs.Errors.{fault_of}
+
+-- some of the folders, the empty file, the file or a part of its line, or a part of the copy may be
+-- there, and what was to be synced may be lost
+abbrev pub may_do_a_part : PlainStep → Bool
+may_do_a_part (MakeDirs p) = true
+may_do_a_part (CreateTemp p) = true
+may_do_a_part (Append p b) = true
+may_do_a_part (Copy p q) = true
+may_do_a_part (SyncTemp t) = true
+may_do_a_part (SyncFile p) = true
+may_do_a_part (SyncDir p) = true
+may_do_a_part _ = false
+
+-- a step that may have done a part never comes back as one that did nothing
+abbrev pub HandsBackWhole : PlainStep → PlainAnswer → Type 0
+HandsBackWhole a (NoMemory b) = may_do_a_part a ≡ false
+HandsBackWhole a _ = Unit {0}
+
+-- ---- what steps of real folders answer, in the words of their clauses
 
 -- a step's value is answered at the end of a run of its calls
 abbrev pub ValueRuns : {A : Type 0} → NumberedStep → (A → NumberedAnswer) → Result A Error
@@ -44,3 +64,15 @@ module _ {Y F D : Type 0} where
   RunsByPath number step result old new =
       goes_by_path (numbered number step) ≡ true
       → StepRuns (numbered number step) (answered_or number (numbered number step) result) old new
+
+-- ---- why the system failed a step
+
+-- a failed step leaves the system's kind of error, and answers its fault; another keeps the one before
+abbrev pub Explains : Option ErrorKind → Option ErrorKind → PlainAnswer → Type 0
+Explains old new (Failed fault) = IsSomeAnd new (λ kind. fault ≡ fault_of kind)
+Explains old new answer = new ≡ old
+
+-- a failed step leaves this kind of error
+abbrev pub LeavesReason : ErrorKind → Option ErrorKind → PlainAnswer → Type 0
+LeavesReason kind new (Failed fault) = new ≡ Some kind
+LeavesReason kind new answer = ⊤

@@ -1,8 +1,8 @@
 //! Real folders as a store.
 ghost use Rattle.std.specs.Prelude.{◌≡◌, ◌++◌, ◌∷◌, []};
-ghost use Rattle.cacache_store.specs.{Plain.{plain_step, plain_answer}, Fits.{Fits, Logs}};
+ghost use Rattle.cacache_store.specs.Plain.{plain_step, plain_answer, Fits, Logs};
 ghost use Rattle.cacache_system.specs.AnswersOf.{StepRuns};
-ghost use Rattle.cacache_folder.specs.{FolderHandles.{seen_file, seen_temp}, FolderNumbers.{numbered, answered}, PartialSteps.{HandsBackWhole}, Reasons.{Explains}, StepsMade.{StepsRun, log_of}, CallsByLog.{CallsByLog}};
+ghost use Rattle.cacache_folder.specs.{FolderHandles.{seen_file, seen_temp}, FolderNumbers.{numbered, answered}, StepClauses.{HandsBackWhole, Explains}, StepsMade.{StepsRun, log_of, CallsByLog}};
 
 mod again;
 mod answers;
@@ -16,7 +16,6 @@ mod fresh;
 mod guess;
 mod listing;
 mod log;
-mod node;
 mod opened;
 mod paths;
 mod refusing;
@@ -36,6 +35,7 @@ use runner::Runner;
 use std::io;
 use std::io::ErrorKind;
 use std::os::fd::AsRawFd;
+use std::random::RandomSource;
 use std::rt::Files;
 pub use temp::{FolderTemp, SystemTemp};
 
@@ -74,7 +74,7 @@ pub struct SystemStore<Y: System + Drop> {
     pub ghost ran: { ∥ StepsRun Y.number log.items (Y.calls began.value) (Y.calls runner.system) ∥₁ },
 }
 
-impl<R: Files + AllocGlobal + Clone + Drop> SystemStore<Host<R>>
+impl<R: Files + RandomSource + AllocGlobal + Clone + Drop> SystemStore<Host<R>>
 where
     R::File: AsRawFd,
 {

@@ -3,10 +3,11 @@ ghost use Rattle.std.specs.Prelude.{◌≡◌, ◌+◌, ◌*◌, ◌%◌, ◌^�
 
 use crate::clock::SystemClock;
 use cacache_store::env::{Clock, Names};
+use cacache_system::random_bits;
 use std::marker::Model;
+use std::process;
 use std::random::RandomSource;
 use std::rt::HostRuntime;
-use std::{io, process};
 
 /// How far each number is from the one before.
 const STRIDE: u64 = 65536;
@@ -27,13 +28,6 @@ impl Model for ProcessNames {
     ghost Value = { ℕ };
 
     ghost view = { λ names. names.next };
-}
-
-/// 64 random bits.
-fn random_bits<R: RandomSource>(source: &R) -> io::Result<u64> {
-    let mut bits = [0; 8];
-    source.fill_bytes(&mut bits)?;
-    Ok(u64::from_le_bytes(bits))
 }
 
 impl ProcessNames {

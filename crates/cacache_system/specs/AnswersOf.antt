@@ -2,19 +2,20 @@
 use Rattle.std.specs.Prelude.{◌≡◌, ◌-◌, ◌^◌, ◌==◌, ◌&&◌, not, ℕ, length, min, Bool, true, false, if◌then◌else◌, List, [], Option}
 use Rattle.std_io.specs.declared.io.kind.ErrorKind.{ErrorKind}
 use Rattle.std_io.specs.declared.io.kind.ErrorKind.TheVariants as kind
-use Rattle.cacache_core.specs.{Contexts.{fault_of}, declared.errors.Fault.TheVariants.{Device}}
+use Rattle.cacache_core.specs.{Errors.{fault_of}, declared.errors.Fault.TheVariants.{Device}}
 use Rattle.cacache_store.specs.declared.store.step.Step.TheVariants as steps
 use Rattle.cacache_store.specs.declared.store.answer.Answer.TheVariants as answers
 use Rattle.cacache_system.specs.{declared.call.{CallResult.{CallResult, TheVariants.{Done, Opened, Count, Bytes, Info, Names, Failed}}, CallItem.{CallItem}}, Seen.{NumberedFile, NumberedTemp, NumberedStep, NumberedAnswer}, CallsOf.{Stage, over, only, trying, taking_memory, opening, to_give, to_sync, to_sync_folder, opening_whole, appending, sizing, asking_source, standing, making, keeping, opening_folder, RunLogged}}
 use Rattle.cacache_system.specs.declared.call.SystemCall.TheVariants as asks
 
--- What a store remembers of its steps chooses no more than how the calls of a step begin: nothing that matters, that the
--- folder is guessed to be missing, or that the file which a temporary one replaces was read before, and then whether the
--- temporary one was synced.
+-- What a store remembers or draws chooses no more than how the calls of a step begin: nothing that matters, that the
+-- folder is guessed to be missing, that the file which a temporary one replaces was read before, and then whether the
+-- temporary one was synced, or the number at which those of a copy's names start.
 pub data Hint : Type 0 where
   no_hint : Hint
   is_missing : Hint
   rewrites : Bool → Hint
+  starts_at : ℕ → Hint
 
 -- a folder that is guessed to be missing is made before it is asked for
 abbrev pub make_dirs : Hint → List ℕ → Stage
@@ -26,6 +27,11 @@ abbrev pub persist : Hint → NumberedTemp → List ℕ → Stage
 persist (rewrites synced) temp path =
     keeping temp.number temp.path synced path (only (asks.Rename temp.path path))
 persist hint temp path = only (asks.Rename temp.path path)
+
+-- where the numbers of the names start that a copy may try
+abbrev pub first_number : Hint → ℕ
+first_number (starts_at number) = number
+first_number hint = 0
 
 -- a folder is listed; an empty path leads to none
 abbrev pub list : List ℕ → Stage
@@ -53,7 +59,7 @@ first hint (steps.Read f max) = read_piece f (min max 131072)
 first hint (steps.Exists p) = only (asks.Stat p)
 first hint (steps.Size p) = sizing p
 first hint (steps.Symlink target p) = only (asks.Symlink target p)
-first hint (steps.Copy from to) = asking_source from to
+first hint (steps.Copy from to) = asking_source (first_number hint) from to
 first hint (steps.Reflink from to) = over (Failed kind.Unsupported)
 first hint (steps.HardLink from to) = only (asks.HardLink from to)
 first hint (steps.ReadDir p) = list p

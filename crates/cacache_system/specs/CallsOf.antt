@@ -1,12 +1,12 @@
 -- The system calls of each kind of step as one table: the call that each stage wants, the stage to which what the
 -- system says leads, and what the calls may end with.
-use Rattle.std.specs.{Prelude.{◌+◌, ◌%◌, codes, ◌≡◌, ◌-◌, ◌^◌, ◌⊎◌, ◌==◌, ◌&&◌, ◌||◌, not, ℕ, zero, suc, get_or, take, length, min, Bool, true, false, if◌then◌else◌, List, [], ◌∷◌, ◌++◌, Option, None, Some, option_map}, Bool.{nat_eq}, Cmp.Lexicographic.{pointwise}, Str.{is_utf8}, Int.{to_be_bytes, w64}}
+use Rattle.std.specs.{Prelude.{◌+◌, ◌%◌, codes, ◌≡◌, ◌-◌, ◌^◌, ◌⊎◌, ◌==◌, ◌&&◌, ◌||◌, not, ℕ, zero, suc, get_or, take, length, Bool, true, false, if◌then◌else◌, List, [], ◌∷◌, ◌++◌, Option, None, Some, option_map}, Bool.{nat_eq}, Cmp.Lexicographic.{pointwise}, Str.{is_utf8}, Int.{to_be_bytes, w64}}
 use Rattle.hex.specs.Hex.{encode_lower}
 use Rattle.std_io.specs.declared.io.kind.ErrorKind.{ErrorKind}
 use Rattle.std_io.specs.declared.io.kind.ErrorKind.TheVariants as kind
 use Rattle.cacache_store.specs.declared.store.answer.Kind.TheVariants as kinds
 use Rattle.cacache_store.specs.declared.store.answer.{Kind.{Kind}, Name.{Name}}
-use Rattle.cacache_system.specs.{declared.call.{SystemCall.{SystemCall, TheVariants.{OpenToRead, CreateNew, OpenToAppend, OpenFolder, Read, ReadNames, ReadRest, Write, Sync, SetOwner, SetMode, StatFile, Stat, StatLink, Rename, MakeFolder, RemoveFile, CopyFile, RealPath}}, FileInfo.{FileInfo}, CallResult.{CallResult, TheVariants.{Done, Opened, Count, Bytes, Info, Names, Failed}}, CallItem.{CallItem}}, CallLog.{GainsCalls}, ListedNames.{text_of, is_proper, is_passed, names_in, with_slash}}
+use Rattle.cacache_system.specs.{declared.call.{SystemCall.{SystemCall, TheVariants.{OpenToRead, CreateNew, OpenToAppend, OpenFolder, Read, ReadNames, ReadRest, Write, Sync, SetOwner, SetMode, StatFile, Stat, StatLink, Rename, MakeFolder, RemoveFile, CopyFile, RealPath}}, FileInfo.{FileInfo}, CallResult.{CallResult, TheVariants.{Done, Opened, Count, Bytes, Info, Names, Failed}}, CallItem.{CallItem}}, Seen.{GainsCalls, text_of, is_proper, is_passed, names_in, with_slash}}
 
 -- what a file is opened for: to be handed out, to be synced, or to be synced as a folder
 pub data Purpose : Type 0 where
@@ -39,9 +39,9 @@ pub data Stage : Type 0 where
   reading_rest : List ℕ → ℕ → Stage
   appending : List ℕ → List ℕ → Stage
   sizing : List ℕ → Stage
-  asking_source : List ℕ → List ℕ → Stage
-  asking_target : FileInfo → List ℕ → List ℕ → Stage
-  asking_end : FileInfo → List ℕ → List ℕ → Stage
+  asking_source : ℕ → List ℕ → List ℕ → Stage
+  asking_target : ℕ → FileInfo → List ℕ → List ℕ → Stage
+  asking_end : ℕ → FileInfo → List ℕ → List ℕ → Stage
   making_end : ℕ → List ℕ → List ℕ → Stage
   resolving : ℕ → List ℕ → List ℕ → Stage
   making_fresh : ℕ → ℕ → List ℕ → List ℕ → Stage
@@ -98,9 +98,9 @@ wants (measuring front file) = Some (StatFile file)
 wants (reading_rest front file) = Some (ReadRest file)
 wants (appending path bytes) = Some (OpenToAppend path)
 wants (sizing path) = Some (Stat path)
-wants (asking_source from to) = Some (Stat from)
-wants (asking_target source from to) = Some (StatLink to)
-wants (asking_end source from to) = Some (Stat to)
+wants (asking_source number from to) = Some (Stat from)
+wants (asking_target number source from to) = Some (StatLink to)
+wants (asking_end number source from to) = Some (Stat to)
 wants (making_end number from to) = Some (OpenToAppend to)
 wants (resolving number from to) = Some (RealPath to)
 wants (making_fresh left number from path) =
@@ -176,23 +176,24 @@ place_fresh number from path = taking_memory (making_fresh 255 number from path)
 
 -- A file takes the place of another, but not of itself, and is written into what is neither file nor folder. A link
 -- was followed to what is there, or no link was.
-abbrev pub copied : Bool → FileInfo → FileInfo → List ℕ → List ℕ → Stage
-copied through source target from to =
+abbrev pub copied : ℕ → Bool → FileInfo → FileInfo → List ℕ → List ℕ → Stage
+copied number through source target from to =
     unless_folder target.kind
     (if pointwise nat_eq from to || is_same_node source target then over (Count source.size)
     else if not target.regular then only (CopyFile from to)
-    else if through then resolving source.inode from to
-    else place_fresh source.inode from to)
+    else if through then resolving number from to
+    else place_fresh number from to)
 
 -- only a file is copied
-abbrev pub source_known : FileInfo → List ℕ → List ℕ → Stage
-source_known source from to =
-    if source.regular then asking_target source from to else over (Failed kind.InvalidInput)
+abbrev pub source_known : ℕ → FileInfo → List ℕ → List ℕ → Stage
+source_known number source from to =
+    if source.regular then asking_target number source from to else over (Failed kind.InvalidInput)
 
 -- what is at the target is replaced, or what a link there leads to
-abbrev pub target_known : FileInfo → FileInfo → List ℕ → List ℕ → Stage
-target_known source target from to =
-    if is_link target.kind then asking_end source from to else copied false source target from to
+abbrev pub target_known : ℕ → FileInfo → FileInfo → List ℕ → List ℕ → Stage
+target_known number source target from to =
+    if is_link target.kind then asking_end number source from to
+    else copied number false source target from to
 
 -- the name of the fresh file is taken: another is tried
 abbrev pub name_taken : ℕ → ℕ → ErrorKind → List ℕ → List ℕ → Stage
@@ -304,13 +305,13 @@ after (measuring front file) (Info info) = taking_memory (reading_rest front fil
 after (reading_rest front file) (Bytes rest) = taking_memory (over (Bytes (front ++ rest)))
 after (appending path bytes) (Opened file) = trying false (Write file bytes)
 after (sizing path) (Info info) = unless_folder info.kind (over (Info info))
-after (asking_source from to) (Info source) = source_known source from to
-after (asking_target source from to) (Info target) = target_known source target from to
-after (asking_target source from to) (Failed why) =
-    if is_absent why then place_fresh source.inode from to else over (Failed why)
-after (asking_end source from to) (Info target) = copied true source target from to
-after (asking_end source from to) (Failed why) =
-    if is_absent why then making_end source.inode from to else over (Failed why)
+after (asking_source number from to) (Info source) = source_known number source from to
+after (asking_target number source from to) (Info target) = target_known number source target from to
+after (asking_target number source from to) (Failed why) =
+    if is_absent why then place_fresh number from to else over (Failed why)
+after (asking_end number source from to) (Info target) = copied number true source target from to
+after (asking_end number source from to) (Failed why) =
+    if is_absent why then making_end number from to else over (Failed why)
 after (making_end number from to) (Opened file) = resolving number from to
 after (resolving number from to) (Bytes path) = place_fresh number from path
 after (making_fresh left number from path) (Opened file) =

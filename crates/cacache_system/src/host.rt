@@ -13,6 +13,7 @@ use std::io;
 use std::io::{Read, Write};
 use std::os::fd::AsRawFd;
 use std::os::unix::fs::{MetadataExt, OpenOptionsExt, PermissionsExt};
+use std::random::RandomSource;
 use std::rt::Files;
 
 /// A runtime's files as the system. It keeps no log.
@@ -85,6 +86,13 @@ fn info(metadata: &Metadata) -> FileInfo {
     }
 }
 
+/// 64 random bits.
+pub fn random_bits<R: RandomSource>(source: &R) -> io::Result<u64> {
+    let mut bits = [0; 8];
+    source.fill_bytes(&mut bits)?;
+    Ok(u64::from_le_bytes(bits))
+}
+
 /// Whether there is neither file, folder nor link.
 fn is_odd(metadata: &Metadata) -> bool {
     !(metadata.is_file() || metadata.is_dir() || metadata.is_symlink())
@@ -106,7 +114,7 @@ fn by<'a>(path: &'a str, other: &'a Option<String>) -> &'a str {
     }
 }
 
-impl<R: Files + Drop> System for Host<R>
+impl<R: Files + RandomSource + Drop> System for Host<R>
 where
     R::File: AsRawFd,
 {
@@ -242,6 +250,10 @@ where
         let metadata = self.rt.symlink_metadata(by(path, &within))?;
         let written = in_millis(metadata.mtime(), metadata.mtime_nsec());
         Ok(written.max(in_millis(metadata.ctime(), metadata.ctime_nsec())))
+    }
+
+    fn random(&mut self) -> io::Result<u64> {
+        random_bits(&self.rt)
     }
 
     fn end_walks(&mut self) {

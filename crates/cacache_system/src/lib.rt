@@ -8,5 +8,5 @@ mod open_folders;
 mod system;
 
 pub use call::{CallItem, CallResult, FileInfo, SystemCall};
-pub use host::Host;
+pub use host::{Host, random_bits};
 pub use system::System;

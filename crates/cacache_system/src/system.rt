@@ -1,6 +1,6 @@
 //! The system, as a store of real folders sees it.
 ghost use Rattle.std.specs.{Prelude.{◌≡◌, ℕ, List, Option, length}, Io.{ReadsAtMost, WritesAtMost, StartsWith}};
-ghost use Rattle.cacache_system.specs.{declared.call.CallItem.{CallItem}, CallLog.{MakesCall, said, said_bytes, said_rest}};
+ghost use Rattle.cacache_system.specs.{declared.call.CallItem.{CallItem}, Seen.{MakesCall, said, said_bytes, said_rest}};
 ghost use Rattle.cacache_system.specs.declared.call.SystemCall.TheVariants as asks;
 ghost use Rattle.cacache_system.specs.declared.call.CallResult.TheVariants as says;
 
@@ -148,6 +148,10 @@ pub trait System {
     /// When what is at a path, be it a link, was last written, moved, or given other rights: the latest of these, in
     /// milliseconds since the start of 1970 (UTC).
     fn changed(&mut self, path: &str) -> io::Result<u64>
+        ensures unlogged { calls self.new ≡ calls self.old };
+
+    /// A number that nobody else can guess.
+    fn random(&mut self) -> io::Result<u64>
         ensures unlogged { calls self.new ≡ calls self.old };
 
     /// Closes what is held open for walks. A system may hold the folder that it opened to be listed, and those below it,

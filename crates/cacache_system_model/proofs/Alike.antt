@@ -1,8 +1,8 @@
 -- What is fixed on a system and on a disk that mirrors it is alike, and so is what a loss of power leaves of them.
 use Rattle.std.proofs.Common.{◌≡◌, ◌&&◌, not, ℕ, Bool, true, false, cond, if◌then◌else◌, List, [], ◌∷◌, ◌++◌, refl, sym, ap, subst, ◌∙◌}
 use Rattle.std.specs.Prelude.{Option, None, Some, unwrap_or}
-use Rattle.cacache_core.specs.PathNames.{Names}
-use Rattle.cacache_disk.specs.{declared.node.Node.{Node, TheVariants.{Folder}}, Rooted.{is_folder}, Tree.{Tree, look}}
+use Rattle.cacache_core.specs.Paths.{Names}
+use Rattle.cacache_disk.specs.{declared.node.Node.{Node, TheVariants.{Folder}}, Tree.{is_folder, Tree, look}}
 use Rattle.cacache_loss.specs.{declared.fixing.{Fixing.{Fixing}, Place.{Place}}, Fixing.{Fixed, place_now}, Loss.{Loss, stays, left_at, lead_folders, node_left, lost_at}}
 use Rattle.cacache_system_model.{specs.{Mirrors.{hollow, Mirrors}, Fixing.{LeavesSame}}, proofs.Mirroring.{shapes}}
 

@@ -2,7 +2,7 @@
 use Rattle.std.proofs.Common.{◌≡◌, ◌⊎◌, ℕ, Bool, true, false, if◌then◌else◌, List, [], ◌∷◌, ◌++◌, refl, sym, ap, ap₂, subst, inl, inr}
 use Rattle.std_io.specs.declared.io.kind.ErrorKind.{ErrorKind}
 use Rattle.cacache_store.specs.declared.store.answer.Kind.TheVariants as kinds
-use Rattle.cacache_system.specs.{declared.call.{SystemCall.{SystemCall}, FileInfo.{FileInfo}, CallResult.{CallResult}, CallItem.{CallItem}}, CallLog.{item}, Seen.{NumberedTemp}, CallsOf.{Stage, over, only, preparing, keeping, after, is_absent, give_mode, give, Runs}, AnswersOf.{Hint, rewrites, persist}}
+use Rattle.cacache_system.specs.{declared.call.{SystemCall.{SystemCall}, FileInfo.{FileInfo}, CallResult.{CallResult}, CallItem.{CallItem}}, Seen.{item, NumberedTemp}, CallsOf.{Stage, over, only, preparing, keeping, after, is_absent, give_mode, give, Runs}, AnswersOf.{Hint, rewrites, persist}}
 use Rattle.cacache_system.specs.declared.call.SystemCall.TheVariants as asks
 use Rattle.cacache_system.specs.declared.call.CallResult.TheVariants as says
 use Rattle.cacache_system_model.{specs.CallForms.{prepares, has_kind, Only, AnsweredInKind}, proofs.StageCalls.{same_call, no_call}}

@@ -1,9 +1,9 @@
 -- The calls of each step of a log.
 use Rattle.std.{proofs.Common.{◌≡◌, ℕ, Bool, true, false, if◌then◌else◌, List, [], ◌∷◌, ◌++◌, map, refl, sym, ap, subst, ◌∙◌}, specs.{Prelude.{Option}, List.{flat_map}}}
-use Rattle.cacache_store.specs.{declared.store.{step.Step.{Step}, answer.Answer.{Answer}, log.LogItem.TheVariants.{Made}}, Plain.{PlainStep, PlainAnswer, plain_step, plain_answer}, Fits.{is_no_memory}}
+use Rattle.cacache_store.specs.{declared.store.{step.Step.{Step}, answer.Answer.{Answer}, log.LogItem.TheVariants.{Made}}, Plain.{PlainStep, PlainAnswer, plain_step, plain_answer, is_no_memory}}
 use Rattle.cacache_store.specs.declared.store.step.Step.TheVariants as steps
 use Rattle.cacache_store.specs.declared.store.answer.Answer.TheVariants as answers
-use Rattle.cacache_system.specs.{declared.call.{SystemCall.{SystemCall}, CallResult.{CallResult}, CallItem.{CallItem}}, CallLog.{GainsCalls}, Seen.{NumberedStep}, CallsOf.{Stage}, AnswersOf.{Hint, first, answer_of}}
+use Rattle.cacache_system.specs.{declared.call.{SystemCall.{SystemCall}, CallResult.{CallResult}, CallItem.{CallItem}}, Seen.{GainsCalls, NumberedStep}, AnswersOf.{Hint, first, answer_of}}
 use Rattle.cacache_system.specs.CallsOf as system
 use Rattle.cacache_folder.specs.{declared.folder.{opened.SystemFile.{SystemFile}, temp.SystemTemp.{SystemTemp}}, FolderHandles.{seen_file, seen_temp}, FolderNumbers.{numbered, answered}, StepsMade.{StepMade, items_of, StepsRun}}
 use Rattle.cacache_calls.specs.{Runs.{Moves}, Licence.{May, allows, looking_on, AllMay}}

@@ -1,7 +1,7 @@
 -- Many steps on a system and on a disk that mirrors it.
 use Rattle.std.proofs.Common.{◌≡◌, ◌⊎◌, ℕ, Bool, true, false, cond, if◌then◌else◌, List, [], ◌∷◌, ◌++◌, take, refl, sym, ap, subst, ◌∙◌, inl, inr}
 use Rattle.std.specs.Prelude.{Option, None, Some, Result, Ok, Err}
-use Rattle.cacache_core.specs.{declared.errors.Fault.{Fault}, PathNames.{Names}}
+use Rattle.cacache_core.specs.{declared.errors.Fault.{Fault}, Paths.{Names}}
 use Rattle.cacache_store.specs.{declared.store.plain.PlainTemp.{PlainTemp}, Plain.{PlainStep, PlainAnswer}}
 use Rattle.cacache_store.specs.declared.store.step.Step.TheVariants as steps
 use Rattle.cacache_store.specs.declared.store.answer.Answer.TheVariants as answers
@@ -9,7 +9,7 @@ use Rattle.cacache_disk.specs.{declared.{luck.Luck.{Luck, TheVariants.{Plain, Fa
 use Rattle.cacache_disk.proofs.{Maps.{same_path-true}, PutNodes.{look-put}}
 use Rattle.cacache_system.specs.{declared.call.{CallItem.{CallItem}, CallResult.{CallResult}}, Seen.{NumberedTemp, NumberedStep}, CallsOf.{Runs}, AnswersOf.{Hint, first, answer_of}}
 use Rattle.cacache_system_model.specs.{Machine.{Machine}, Calls.{OccursSomehow, EachCall}, Laws.{temp_on, step_on, answer_on, outcome, LeavesFresh, IsLucky}, Listing.{Lists, IsListedOrLucky}, Writing.{WritesSome}, Mirrors.{hollow, Mirrors, temps_after, SparesOpen}, Chains.{StepMade, temps_left, HasLaw, WritesTemp, MadePlainly, IsCovered, OnDisk, StepsOnDisk, IsMade, IsListing, ListsFolder, SameNames, DiskDoes, RunsMirror}}
-use Rattle.cacache_system_model.proofs.{Refused.{same_outcome}, Steps.{Listing.{listed_apply, read_dir_breaks}, Writing.{write_agrees}}, Covered.{each_may_break, each_goes_plainly}, Keeping.{steps_mirror}}
+use Rattle.cacache_system_model.proofs.{Refusing.{same_outcome}, Steps.{Listing.{listed_apply, read_dir_breaks}, Writing.{write_agrees}}, Covered.{each_may_break, each_goes_plainly}, Keeping.{steps_mirror}}
 
 listed_same : (r : Result Names Fault) (d : Tree) → (unless r d (λ names. outcome (answers.Names (listing d names)) d)).1 ≡ d
 listed_same (Ok names) d = refl

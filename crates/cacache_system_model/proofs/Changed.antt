@@ -1,12 +1,12 @@
 -- What a step leaves fixed on a system and on a disk that mirrors it is alike.
 use Rattle.std.proofs.Common.{◌≡◌, ◌⊎◌, inl, inr, ◌||◌, not, ℕ, Bool, true, false, cond, if◌then◌else◌, List, [], Option, None, Some, refl, sym, ap, subst, ◌∙◌}
 use Rattle.std.specs.Prelude.{Result, Ok, Err, unwrap_or}
-use Rattle.cacache_core.specs.{declared.errors.Fault.{Fault}, PathNames.{Names, names_of}}
+use Rattle.cacache_core.specs.{declared.errors.Fault.{Fault}, Paths.{Names, names_of}}
 use Rattle.cacache_store.specs.{declared.store.plain.PlainTemp.{PlainTemp}, Plain.{PlainStep, PlainAnswer}}
 use Rattle.cacache_store.specs.declared.store.step.Step.TheVariants as steps
 use Rattle.cacache_disk.{specs.{declared.node.Node.{Node, TheVariants.{Folder, File, Link}}, Tree.{Tree, look, same_path, bytes_of}, LedTo.{leads}}, proofs.Maps.{same_path-true}}
 use Rattle.cacache_loss.specs.{declared.fixing.{Fixing.{Fixing}, Place.{Place}}, Fixing.{Fixed, synced, place_now, is_at, is_child_of, same_node, same_thing, moves_file, writes_at, rewrites_at, opened_if, refixed, moved_fixing, moved_to, renamed, file_after, name_after, changed, temp_synced, file_synced, folder_synced, is_synced, fixed_after}}
-use Rattle.cacache_loss.proofs.UnchangedPaths.{bytes_same}
+use Rattle.cacache_loss.proofs.Reaching.{bytes_same}
 use Rattle.cacache_system_model.specs.Mirrors.{hollow, Mirrors, IsNoTemp, SparesOpen}
 use Rattle.cacache_system_model.proofs.{Mirroring.{shapes, leads_same, look_same_at}, Alike.{AlikePlace, AlikeWas, AlikeFixed, now_alike}, Touching.{Touched, rests, apart, comes, goes, arrives, grows}}
 

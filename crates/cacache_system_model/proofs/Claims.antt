@@ -6,7 +6,7 @@ use Rattle.cacache_disk.specs.{declared.luck.Luck.{Luck, TheVariants.{Plain, Fai
 use Rattle.cacache_system.specs.{declared.call.{SystemCall.{SystemCall}, CallResult.{CallResult}}, CallsOf.{Stage, taking_memory}, Seen.{NumberedStep}, AnswersOf.{Hint, first, answer_of, failed_with, misses}}
 use Rattle.cacache_system.specs.declared.call.CallResult.TheVariants as says
 use Rattle.cacache_system_model.specs.{Machine.{Machine}, Calls.{GoesWell, Occurs, OccursSomehow, LeavesPart}, Laws.{step_on, led_to, Leads, IsPlain, IsDone, IsLucky, Agrees}}
-use Rattle.cacache_system_model.proofs.{Leading.{Way, Claim}, Refused.{broken_agrees}}
+use Rattle.cacache_system_model.proofs.{Leading.{Way, Claim}, Refusing.{broken_agrees}}
 
 -- how calls happen: well, or somehow
 abbrev pub way_of : Bool → Way

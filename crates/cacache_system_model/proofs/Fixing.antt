@@ -3,7 +3,7 @@ use Rattle.std.proofs.Common.{◌≡◌, ◌&&◌, not, ℕ, Bool, true, false, 
 use Rattle.std.specs.{Prelude.{Option, None, Some, Result, Ok, option_map}, Option.{unwrap_or}}
 use Rattle.std_io.specs.declared.io.kind.ErrorKind.{ErrorKind}
 use Rattle.std_io.specs.declared.io.kind.ErrorKind.TheVariants as kind
-use Rattle.cacache_core.specs.{Contexts.{fault_of}, declared.errors.Fault.{Fault}, PathNames.{Names, names_of}}
+use Rattle.cacache_core.specs.{Errors.{fault_of}, declared.errors.Fault.{Fault}, Paths.{Names, names_of}}
 use Rattle.cacache_store.specs.declared.store.answer.Kind.{Kind}
 use Rattle.cacache_store.specs.declared.store.step.Step.TheVariants as steps
 use Rattle.cacache_store.specs.declared.store.answer.Answer.TheVariants as answers
@@ -13,7 +13,7 @@ use Rattle.cacache_loss.specs.Fixing.{Fixed, fixed_after, synced, is_at, is_chil
 use Rattle.cacache_system.specs.{declared.call.{FileInfo.{FileInfo}, CallResult.{CallResult}}, CallsOf.{to_sync, to_sync_folder, only, if_folder, opened}, Seen.{NumberedTemp, NumberedStep}, AnswersOf.{Hint, first, answer_of, failed_with, refuses_memory, leaves_a_part}}
 use Rattle.cacache_system.specs.declared.call.SystemCall.TheVariants as asks
 use Rattle.cacache_system.specs.declared.call.CallResult.TheVariants as says
-use Rattle.cacache_system_model.specs.{Machine.{Place, under, nameless, node_of, Machine, SyncedNode, with_sync, in_doubt, Describes}, Calls.{OccursSomehow}, Laws.{bytes_in, temp_on, step_on, answer_on, Leads}, OneCall.{StillStands}, Syncing.{EndsInNoLink}, Fixing.{with_synced, after_syncs, NoDoubt}}
+use Rattle.cacache_system_model.specs.{Machine.{Place, under, nameless, node_of, Machine, SyncedNode, with_sync, in_doubt, Describes}, Calls.{OccursSomehow}, Laws.{bytes_in, temp_on, step_on, answer_on, Leads}, StepLaws.{StillStands, EndsInNoLink}, Fixing.{with_synced, after_syncs, NoDoubt}}
 use Rattle.cacache_system_model.proofs.{Claims.{way_of}, Steps.{Opening.{OpenedOn, Openings, opening_leads, file_under}, Looking.{link_there, refused_folder, wanted_file}, Syncing.{WasSynced, sync_leads, refused_other}}, Views.{nowhere, a_folder, a_file, view, leads_straight}}
 
 -- a step fixes what its calls synced, and nothing else

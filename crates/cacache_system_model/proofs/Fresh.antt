@@ -1,6 +1,6 @@
 -- Trees with a file where nothing was: every path that led to something still leads there.
 use Rattle.std.{proofs.Common.{◌≡◌, ℕ, zero, suc, Bool, true, false, cond, List, [], ◌∷◌, ◌++◌, refl, sym, ap, subst, ◌∙◌}, specs.Prelude.{Option, None, Some, Result, Ok, Err}}
-use Rattle.cacache_core.specs.{declared.errors.Fault.{Fault, TheVariants.{TooDeep}}, PathNames.{Names, names_of, IsProperName}}
+use Rattle.cacache_core.specs.{declared.errors.Fault.{Fault, TheVariants.{TooDeep}}, Paths.{Names, names_of, IsProperName}}
 use Rattle.cacache_disk.specs.{declared.node.Node.{Node, TheVariants.{Folder, File, Link}}, Tree.{Tree, look, put, cut, same_path}, LedTo.{and_then, or_fault, through, way_fault, on_link, followed, place, standing, leads, found, file_at, writable, free, removable, replaceable, where_there, where_free, where_removable, where_no_folder, bytes_there}}
 use Rattle.cacache_disk.proofs.{FoundNodes.{and_then_ok, or_fault_none, place_ok}, Maps.{same_path-true}, PutNodes.{cut-put, put-cut_same, look-put}, Roots.{same_self}}
 use Rattle.cacache_system.specs.CallsOf.{above_of, in_folder}

@@ -1,12 +1,12 @@
 -- What many steps leave fixed on a system and on a disk that does the same, and what a loss of power leaves of both.
 use Rattle.std.proofs.{Common.{◌≡◌, ◌⊎◌, inl, inr, ◌||◌, ◌-◌, ℕ, Bool, true, false, cond, List, [], ◌∷◌, ◌++◌, take, length, refl, sym, ap, subst, ◌∙◌}, lemmas.{List.{length-append}, Bool.{or_right}}, Math.{Seq.{take-append_seam}, Nat.{add-sub_cancel}}}
 use Rattle.std.specs.{Prelude.{Option, None, Some, Result, Ok}, List.{AllByRecursion}}
-use Rattle.cacache_core.specs.{declared.errors.Fault.{Fault, TheVariants.{Device}}, PathNames.{Names, names_of}}
+use Rattle.cacache_core.specs.{declared.errors.Fault.{Fault, TheVariants.{Device}}, Paths.{Names, names_of}}
 use Rattle.cacache_store.specs.Plain.{PlainStep, PlainAnswer}
 use Rattle.cacache_store.specs.declared.store.step.Step.TheVariants as steps
 use Rattle.cacache_store.specs.declared.store.answer.Answer.TheVariants as answers
 use Rattle.cacache_disk.specs.{declared.{luck.Luck.{Luck, TheVariants.{Plain, Fail}}, node.Node.TheVariants.{File}}, Tree.{Tree, look, put, same_path, bytes_of}, Apply.{apply, plain, fails, fault_told, made_up, lengthened}}
-use Rattle.cacache_value.specs.Traces.{Move}
+use Rattle.cacache_value.specs.Acts.{Move}
 use Rattle.cacache_loss.specs.{Fixing.{Fixed, all_fixed, is_sync, is_synced, moves_file, rewrites_at, is_at, changed, fixed_after}, Moments.{Moment, next, after, EachMove}, ChangedNames.{opening}}
 use Rattle.cacache_loss.proofs.StepCases.{put_misses}
 use Rattle.cacache_system.specs.{declared.call.{CallItem.{CallItem}, CallResult.{CallResult}}, Seen.{NumberedTemp, NumberedStep}, CallsOf.{Runs}, AnswersOf.{Hint, first, answer_of}}

@@ -1,4 +1,3 @@
-mod Refused
 mod Leading
 mod Steps
 pub mod Views

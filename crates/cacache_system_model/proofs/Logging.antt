@@ -1,7 +1,7 @@
 -- Runs that a log gained.
 use Rattle.std.{proofs.Common.{◌≡◌, List, [], ◌∷◌, ◌++◌, sym, subst}, specs.Prelude.{Some}}
 use Rattle.cacache_system.specs.{declared.call.CallItem.{CallItem}, Seen.{NumberedAnswer}}
-use Rattle.cacache_system_model.{specs.{Calls.{OccursSomehow, EachCall}, Logged.{IsDisks, LogsAgree}}, proofs.Covered.{each_may_break}}
+use Rattle.cacache_system_model.{specs.{Calls.{OccursSomehow, EachCall}, CallForms.{IsDisks, LogsAgree}}, proofs.Covered.{each_may_break}}
 
 -- equal lists with the same front have the same end
 same_end : (old xs ys : List CallItem) → old ++ xs ≡ old ++ ys → xs ≡ ys

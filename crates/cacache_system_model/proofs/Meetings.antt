@@ -1,13 +1,13 @@
 -- Each call can happen as `GoesWell` says.
-use Rattle.std.proofs.Common.{◌≡◌, ◌+◌, ℕ, List, [], ◌∷◌, ◌++◌, length, take, drop, refl, sym, ap, subst, inr, eq-eqb, ne_eqb}
-use Rattle.std.specs.Prelude.{Bool, if◌then◌else◌, ◌==◌, Option, None, Some, IsPermutation, is_some, Result, Ok, Err, MatchOption, IfSome, IfNone, IfOk, MatchResult}
-use Rattle.cacache_core.specs.{declared.errors.Fault.{Fault, TheVariants.{Device, IsADirectory, InvalidInput}}, PathNames.{Names}}
-use Rattle.cacache_disk.specs.{declared.node.Node.{Node, TheVariants.{Folder, File, Link}}, Tree.{Tree, look, put, cut, kind_of, listing}, LedTo.{place, standing, leads, found, file_at, writable, free, replaceable, linked, removable, emptied}, Apply.{taken, readable, lengthened}}
+use Rattle.std.proofs.{lemmas.Grind.{common_steps}, Common.{rules, arith, ◌≡◌, ◌+◌, ℕ, List, [], ◌∷◌, ◌++◌, length, take, drop, refl, sym, ap, subst, inr}}
+use Rattle.std.specs.Prelude.{if◌then◌else◌, ◌==◌, Option, None, Some, IsPermutation, Result, Ok, Err, MatchOption, IfSome, IfNone, IfOk, MatchResult}
+use Rattle.cacache_core.specs.{declared.errors.Fault.{Fault, TheVariants.{Device, IsADirectory, InvalidInput}}, Paths.{Names}}
+use Rattle.cacache_disk.specs.{declared.node.Node.{Node, TheVariants.{Folder, File, Link}}, Tree.{Tree, look, put, cut, kind_of, listing}, LedTo.{place, standing, leads, found, file_at, writable, free, replaceable, linked, removable, emptied}, Apply.{readable, lengthened}}
 use Rattle.std_io.specs.declared.io.kind.ErrorKind.TheVariants as kind
 use Rattle.cacache_system.specs.declared.call.{FileInfo.{FileInfo}, CallResult.{CallResult}}
 use Rattle.cacache_system.specs.declared.call.SystemCall.TheVariants as asks
 use Rattle.cacache_system.specs.declared.call.CallResult.TheVariants as says
-use Rattle.cacache_system_model.specs.{Machine.{Place, under, nameless, OpenFile, node_of, SyncedNode, Machine, gone, moved, grown, placed, ChangesPlaces, Grows, ShowsPlace, with_sync, fixes, Became, IsRefused, ChangesTree, OpensIf, with_file, unread, is_regular, Describes, ShowsNode, ShowsEnd, ReadsFile, GivesOwner, link_fault, LinksNode, found_bytes, CopiesBytes, CopiesTo, MovesNode, with_empty, Spells, SpellsEnd}, Calls.{brought}, Folders.{GivesNames, ended, HasLeft, OpensNames, OpensFolder, ReadsSome}, Meeting.{HasRoom, CallsCanGoWell}}
+use Rattle.cacache_system_model.specs.{Machine.{Place, under, nameless, OpenFile, node_of, SyncedNode, Machine, gone, moved, grown, placed, ChangesPlaces, Grows, ShowsPlace, with_sync, fixes, Became, IsRefused, ChangesTree, OpensIf, with_file, unread, is_regular, Describes, ShowsNode, ShowsEnd, ReadsFile, GivesOwner, link_fault, LinksNode, found_bytes, CopiesBytes, CopiesTo, MovesNode, with_empty, Spells, SpellsEnd}, Calls.{brought}, Folders.{GivesNames, ended, HasLeft, OpensNames, OpensFolder, ReadsSome}, Laws.{HasRoom, CallsCanGoWell}}
 use Rattle.cacache_system_model.proofs.Saying.{CanSay, a_folder, Sayable, place_say, standing_say, found_say, writable_say, free_say, replaceable_say, removable_say, emptied_say, file_say, LinkSayable, linked_say}
 use Rattle.cacache_store.specs.declared.store.answer.Name.{Name}
 
@@ -58,8 +58,7 @@ abbrev info_of : Node → ℕ × ℕ → FileInfo
 info_of node inode = record { kind = kind_of node; regular = is_regular node; size = size_of (Some node); inode = inode.0; device = inode.1; mode = 0; owner = 0; group = 0 }
 
 described : (node : Node) (inode : ℕ × ℕ) → Describes node inode (info_of node inode)
-described (File bytes) inode = record { kind = refl; regular = refl; size = refl; number = refl }
-described node inode = record { kind = refl; regular = refl; size = tt; number = refl }
+described node inode = grind (arith, common_steps)
 
 can_show_node : (m : Machine) (names : Names) (o : Option Node) → look m.tree names ≡ o → Can (ShowsNode names m)
 can_show_node m names None is =
@@ -115,10 +114,7 @@ can_copy m (Ok bytes) ends begin can = can_copy_to m bytes ends can
 can_copy m (Err fault) ends begin can = can_refuse fault m begin
 
 pub brought_say : (source target : Result Names Fault) (bytes : Result (List ℕ) Fault) → Sayable bytes → Sayable (found_bytes source target bytes)
-brought_say (Ok source) (Ok target) (Ok bytes) can = tt
-brought_say (Ok source) (Ok target) (Err fault) can = can
-brought_say (Ok source) (Err fault) bytes can = can
-brought_say (Err fault) target bytes can = can
+brought_say source target bytes can = grind (arith, common_steps)
 
 -- ---- folders
 
@@ -137,13 +133,7 @@ abbrev pub folders_on : Machine → ℕ → List (List ℕ) → Machine
 folders_on m number left = record { tree = m.tree; files = m.files; synced = m.synced; inodes = m.inodes; folders = with_left m.folders number left; order = m.order }
 
 pub has_left : (m : Machine) (number : ℕ) (left : List (List ℕ)) → HasLeft number left m (folders_on m number left)
-has_left m number left = record {
-  tree = refl;
-  files = refl;
-  synced = refl;
-  left = ap (λ (b : Bool). if b then Some left else m.folders number) (eq-eqb number number refl);
-  others = λ k other. ap (λ (b : Bool). is_some (if b then Some left else m.folders k)) (ne_eqb k number other);
-}
+has_left m number left = search rules
 
 can_list : (m : Machine) (names : Names) (o : Option Node) → HasRoom m → IsPermutation (listing m.tree names) (m.order names) → Can (OpensNames names o m)
 can_list m names (Some Folder) (number, room) order =
@@ -179,9 +169,7 @@ calls_can_go_well most m (asks.Read number size) room spelt =
     of_open (m.files number) (m.folders number) (λ file. ReadsFile (take (readable most size)) number file (node_of m.tree file.place) m) m (λ file. can_read m (take (readable most size)) number file (node_of m.tree file.place))
 calls_can_go_well most m (asks.ReadRest number) room spelt =
     of_open (m.files number) (m.folders number) (λ file. ReadsFile (λ bytes. bytes) number file (node_of m.tree file.place) m) m (λ file. can_read m (λ bytes. bytes) number file (node_of m.tree file.place))
-calls_can_go_well most m (asks.Write number bytes) room spelt =
-    of_open (m.files number) (m.folders number) (λ file said after. (said ≡ says.Count (taken most bytes)) × Grows file.place (take (taken most bytes) bytes) m after) m
-    (λ file. can_grow m file.place (taken most bytes) (take (taken most bytes) bytes))
+calls_can_go_well most m (asks.Write number bytes) room spelt = search (rules, of_open, can_grow)
 calls_can_go_well most m (asks.Sync number) room spelt =
     of_open (m.files number) (m.folders number) (λ file said after. (said ≡ says.Done) × Became m m.tree m.files (with_sync file.place (fixes m.synced (node_of m.tree file.place)) m.synced) after) m
     (λ file. (says.Done, becoming m m.tree m.files (with_sync file.place (fixes m.synced (node_of m.tree file.place)) m.synced), (refl, (refl, refl, refl, λ k. refl))))

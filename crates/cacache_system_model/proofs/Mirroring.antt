@@ -2,7 +2,7 @@
 use Rattle.std.proofs.Common.{◌≡◌, ◌==◌, ◌&&◌, T, ℕ, zero, suc, Bool, true, false, cond, if◌then◌else◌, List, [], ◌∷◌, ◌++◌, length, map, refl, sym, ap, subst, ◌∙◌}
 use Rattle.std.specs.{Prelude.{Option, Some, Result, Ok, Err, IfOk}, FinMap.Entries.{below_all}, List.{filter_map, cons_option}, Ordering.{is_lt, eq_by_cmp}}
 use Rattle.std.specs.FinMap as finite
-use Rattle.cacache_core.specs.{declared.errors.Fault.{Fault, TheVariants.{NotEmpty, AlreadyExists, NotADirectory, TooDeep}}, PathNames.{Names, names_of}}
+use Rattle.cacache_core.specs.{declared.errors.Fault.{Fault, TheVariants.{NotEmpty, AlreadyExists, NotADirectory, TooDeep}}, Paths.{Names, names_of}}
 use Rattle.cacache_store.specs.declared.store.answer.Name.{Name}
 use Rattle.cacache_disk.specs.{declared.node.Node.{Node, TheVariants.{Folder, File, Link}}, Tree.{Tree, look, names_cmp, child_of, listing}, LedTo.{and_then, or_fault, through, way_fault, place, where_there, where_free, where_no_folder, where_removable, where_folder, where_file, bytes_there, linked_in, on_link, standing, followed, leads, found, file_at, writable, free, replaceable, kept, linked, removable, folder, where_empty, emptied, is_in_way, dirs_fault, dirs}}
 use Rattle.cacache_disk.proofs.Maps.{total, only}

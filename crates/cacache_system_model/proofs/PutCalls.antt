@@ -1,18 +1,18 @@
 -- The parts of a put's calls, from each state on.
-use Rattle.std.proofs.{Common.{◌≤◌, ◌≡◌, ◌==◌, ℕ, Bool, true, false, if◌then◌else◌, nat_le, List, [], ◌∷◌, ◌++◌, length, drop, map, refl, sym, ap, subst, ◌∙◌, inl, inr}, lemmas.Bool.{leb-true}}
+use Rattle.std.proofs.{lemmas.{Grind.{common_steps}, Bool.{leb-true}}, Common.{rules, arith, ◌≤◌, ◌≡◌, ℕ, Bool, true, false, if◌then◌else◌, nat_le, List, [], ◌∷◌, ◌++◌, length, map, refl, sym, ap, subst, ◌∙◌, inl, inr}}
 use Rattle.std.specs.Prelude.{Option, None, Some, Result, Ok, Err}
-use Rattle.cacache_core.specs.declared.{errors.{Fault.{Fault}, SerdeCause.{SerdeCause}, IntegrityFault.TheVariants.{Check}, Error.{Error, TheVariants.{SizeMismatch, IoError, SerdeError, IntegrityError, OutOfMemory}}}, integrity.digest.Hash.{Hash}}
+use Rattle.cacache_core.specs.declared.{errors.{Fault.{Fault}, SerdeCause.{SerdeCause}, Error.{Error, TheVariants.{IoError, SerdeError, OutOfMemory}}}, integrity.digest.Hash.{Hash}}
 use Rattle.cacache_core.specs.declared.errors.Fault.TheVariants as faults
-use Rattle.cacache_store.specs.{declared.store.{plain.PlainTemp.{PlainTemp}, log.LogItem.{LogItem, TheVariants.{Made}}}, Plain.{PlainStep, PlainAnswer}, Fits.{Fits}}
+use Rattle.cacache_store.specs.{declared.store.{plain.PlainTemp.{PlainTemp}, log.LogItem.{LogItem, TheVariants.{Made}}}, Plain.{PlainStep, PlainAnswer, Fits}}
 use Rattle.cacache_store.specs.declared.store.step.Step.TheVariants as steps
 use Rattle.cacache_store.specs.declared.store.answer.Answer.TheVariants as answers
 use Rattle.cacache_system.specs.declared.call.CallItem.{CallItem}
 use Rattle.cacache_system.specs.declared.call.SystemCall.TheVariants as asks
-use Rattle.cacache_folder.specs.{StepsMade.{StepMade}, CallsByLog.{CallsInParts}}
-use Rattle.cacache_calls.specs.{declared.{answers.Refusal.{Refusal}, command.{Command.{Command}, Put.{Put}}, reply.Reply.{Reply, TheVariants.{Stored, Refused}}, carried.Commit.{Commit}}, Answers.{done_in, temp_in, written_in, synced_in, taken_in, there_in}, StepPaths.{temp_path, temp_folder, content_path, content_folder, content_folders, bucket_path, bucket_folder, bucket_folders}, State.{State, doing, creating, writing, syncing, persisting, confirming, appending, over, Site, Insertion, Errand, make_folder, sync_file, sync_dir}, Common.{ends_with, fails, go_on, errand_step, sync_up}, Inserting.{bucket_line, refused_cause, unless_refused, insert, insertion, deletion, recorded, after_append}, Storing.{insertion_of, indexed, sized, matches, compared, placed, secured, secured_found, move_in, persist, write_rest, after_write, after_confirm, put_commit, store}, Table.{wants, after, opening}, Runs.{Moves, Runs}, Effects.{IsRefused}, Licence.{looking_on}}
+use Rattle.cacache_folder.specs.StepsMade.{StepMade, CallsInParts}
+use Rattle.cacache_calls.specs.{declared.{answers.Refusal.{Refusal}, command.{Command.{Command}, Put.{Put}}, reply.Reply.{Reply, TheVariants.{Refused}}, carried.Commit.{Commit}}, Answers.{done_in, temp_in, written_in, synced_in, taken_in, there_in}, Steps.{temp_path, temp_folder, content_path, content_folder, content_folders, bucket_path, bucket_folders}, State.{State, doing, creating, writing, syncing, persisting, confirming, appending, over, Site, Insertion, Errand, make_folder, sync_file, sync_dir}, Common.{ends_with, fails, go_on, errand_step, sync_up}, Inserting.{bucket_line, refused_cause, unless_refused, insert, insertion, deletion, recorded, after_append}, Storing.{indexed, sized, compared, placed, secured, secured_found, move_in, persist, write_rest, after_write, after_confirm, put_commit, store}, Table.{wants, after, opening}, Runs.{Moves, Runs}, Effects.{IsRefused}, Licence.{looking_on}}
 use Rattle.cacache_calls.proofs.Within.{calls_keep_to}
 use Rattle.cacache_calls.specs.declared.answers.Refusal.TheVariants as refusals
-use Rattle.cacache_system_model.specs.{CallForms.{writes_file, prepares, Form, Only, AnsweredInKind, One, Then, Perhaps, Part, Has, InParts, folders, creates, writes, syncs_temp, moves, sends, syncs}, CallLaws.{synced_up, recorded_parts, insert_parts, index_parts, secured_parts, found_parts, place_parts, move_parts, put_parts, CallsOfCall, LastCalls}}
+use Rattle.cacache_system_model.specs.{CallForms.{writes_file, prepares, Form, Only, AnsweredInKind, One, Then, Perhaps, Part, Has, InParts, folders, creates, writes, syncs_temp, sends, syncs}, CallLaws.{synced_up, recorded_parts, insert_parts, index_parts, secured_parts, found_parts, place_parts, move_parts, put_parts, CallsOfCall, LastCalls}}
 use Rattle.cacache_system_model.proofs.{StepCalls.{Sent, plain_of, Claim, step_claims, kinds_rest}, CallGroups.{Own, OwnEach, grouped, only_append, looks_each}}
 
 abbrev Log : Type 0
@@ -35,8 +35,7 @@ kinds_first [] rest kinds = tt
 kinds_first (x ∷ own) rest kinds = (kinds.0, kinds_first own rest kinds.1)
 
 claimed : (step given : PlainStep) (said : PlainAnswer) (own : List CallItem) → given ≡ step → AnsweredInKind own → Own given said own → Claim step said own
-claimed step given said own is kinds (made, hint, end, runs, same, answer) =
-    subst (λ (s : PlainStep). Claim s said own) (same ∙ is) (subst (λ (t : PlainAnswer). Claim (plain_of made) t own) answer (step_claims made hint own end kinds runs))
+claimed step given said own is kinds (made, hint, end, runs, same, answer) = search (rules, plain_of, step_claims)
 
 -- a state that needs a step
 gives_step : (s : State) (step : PlainStep) (P : Form) → wants s ≡ Some step
@@ -69,28 +68,22 @@ gives_on (Err (refusals.Fault fault)) next P k = refused (IoError fault []) P
 gives_on (Err refusals.Memory) next P k = refused OutOfMemory P
 
 gives_if : (b : Bool) (s t : State) (P : Form) → Gives s P → Gives t P → Gives (if b then s else t) P
-gives_if true s t P g h = g
-gives_if false s t P g h = h
+gives_if b s t P g h = grind (arith, common_steps)
 
 if_gives : (b : Bool) (s t : State) (ps qs : List Part) → Gives s (InParts ps) → Gives t (InParts qs) → Gives (if b then s else t) (InParts (if b then ps else qs))
-if_gives true s t ps qs g h = g
-if_gives false s t ps qs g h = h
+if_gives b s t ps qs g h = grind (arith, common_steps)
 
 done_is : (said : PlainAnswer) (u : Unit {0}) → done_in said ≡ Ok u → said ≡ answers.Done
-done_is answers.Done u is = refl
-done_is said u is = absurd cc
+done_is said u is = grind (arith, common_steps)
 
 temp_is : (said : PlainAnswer) (f : PlainTemp) → temp_in said ≡ Ok f → said ≡ answers.Temp f
-temp_is (answers.Temp g) f is = let same : g ≡ f = cc in ap answers.Temp same
-temp_is said f is = absurd cc
+temp_is said f is = grind (arith, common_steps)
 
 synced_is : (said : PlainAnswer) (f : PlainTemp) → synced_in said ≡ Ok f → said ≡ answers.Synced f
-synced_is (answers.Synced g) f is = let same : g ≡ f = cc in ap answers.Synced same
-synced_is said f is = absurd cc
+synced_is said f is = grind (arith, common_steps)
 
 taken_is : (said : PlainAnswer) (n : ℕ) → taken_in said ≡ Ok n → said ≡ answers.Took n
-taken_is (answers.Took m) n is = let same : m ≡ n = cc in ap answers.Took same
-taken_is said n is = absurd cc
+taken_is said n is = grind (arith, common_steps)
 
 -- an errand, and then the rest
 gives_doing : (e : Errand) (part : Part) (s : State) (Q : Form) → ((own : List CallItem) → Claim (errand_step e) answers.Done own → Has part own) → Gives s Q → Gives (doing e s) (Then (Has part) Q)
@@ -120,8 +113,7 @@ gives_recorded i =
 
 -- if the condition holds, the first state goes on
 gives_if_so : (b : Bool) (s t : State) (P : Form) → (b ≡ true → Gives s P) → Gives t P → Gives (if b then s else t) P
-gives_if_so true s t P g h = g refl
-gives_if_so false s t P g h = h
+gives_if_so b s t P g h = grind (arith, common_steps)
 
 sent_whole : (path line : List ℕ) (n : ℕ) (own : List CallItem) → length line ≤ n → Then (Only prepares) (Sent path line n) own → Has (sends path line) own
 sent_whole path line n own whole (before, rest, same, all, (number, often, is)) = (before, rest, same, all, (number, often, n, whole, is))
@@ -144,28 +136,22 @@ gives_appending i =
     (refused (IoError faults.ShortAppend []) (λ rest. InParts parts (own ++ rest)))))
 
 gives_unless : (i : Insertion) (cause : Option SerdeCause) → Gives (unless_refused i cause) (InParts (insert_parts i))
-gives_unless i None =
-    gives_folder (bucket_folder i.cache i.entry.key) (appending i) (InParts (sends (bucket_path i.cache i.entry.key) (bucket_line i) ∷ recorded_parts i)) (gives_appending i)
+gives_unless i None = search (rules, gives_folder, gives_appending)
 gives_unless i (Some cause) = refused (SerdeError cause []) (InParts (insert_parts i))
 
 gives_insert : (i : Insertion) → Gives (insert i) (InParts (insert_parts i))
 gives_insert i = gives_unless i (refused_cause i)
 
 gives_indexed : (c : Commit) (key : Option (List ℕ)) → Gives (indexed c key) (InParts (index_parts c key))
-gives_indexed c None = gives_over (Stored c.computed)
-gives_indexed c (Some key) = gives_insert (insertion_of c key)
+gives_indexed c key = grind (arith, gives_over, gives_insert)
 
 gives_sized : (c : Commit) (size : Option ℕ) → Gives (sized c size) (InParts (index_parts c c.key))
 gives_sized c None = gives_indexed c c.key
-gives_sized c (Some wanted) =
-    gives_if (wanted == c.count) (indexed c c.key) (ends_with (SizeMismatch wanted c.count)) (InParts (index_parts c c.key)) (gives_indexed c c.key)
-    (refused (SizeMismatch wanted c.count) (InParts (index_parts c c.key)))
+gives_sized c (Some wanted) = search (rules, gives_if, gives_indexed, refused)
 
 gives_compared : (c : Commit) (expected : Option (List Hash)) → Gives (compared c expected) (InParts (index_parts c c.key))
 gives_compared c None = gives_sized c c.options.size
-gives_compared c (Some expected) =
-    gives_if (matches expected c.computed) (sized c c.options.size) (ends_with (IntegrityError (Check expected c.computed))) (InParts (index_parts c c.key)) (gives_sized c c.options.size)
-    (refused (IntegrityError (Check expected c.computed)) (InParts (index_parts c c.key)))
+gives_compared c (Some expected) = search (rules, gives_if, gives_sized, refused)
 
 gives_secured : (c : Commit) → Gives (secured c) (InParts (secured_parts c))
 gives_secured c =
@@ -194,8 +180,7 @@ found_first : (part : Part) (parts : Bool → List Part) (calls : List CallItem)
 found_first part parts calls (own, rest, same, has, (found, more)) = (found, (own, rest, same, has, more))
 
 if_found : (b : Bool) (s t : State) (ps qs : Bool → List Part) → Gives s (Found ps) → Gives t (Found qs) → Gives (if b then s else t) (Found (λ f. if b then ps f else qs f))
-if_found true s t ps qs g h = g
-if_found false s t ps qs g h = h
+if_found b s t ps qs g h = grind (arith, common_steps)
 
 module _ (temp : List ℕ) (c : Commit) where
   abbrev Tried : Form
@@ -218,9 +203,7 @@ module _ (temp : List ℕ) (c : Commit) where
 
   persists : (file : PlainTemp) → file.path ≡ temp → (said : PlainAnswer) (own : List CallItem) → Claim (steps.Persist file (content_path c.cache c.computed)) said own
       → Gives (go_on (done_in said) (confirming c) (λ _. secured c)) (Placed own)
-  persists file is answers.Done own claim =
-      λ run rest i runs each kinds.
-      (false, (own, rest, refl, subst (λ (p : List ℕ). Has (moves p (content_path c.cache c.computed)) own) is claim, gives_secured c run rest i runs each kinds))
+  persists file is answers.Done own claim = search (rules, gives_secured)
   persists file is (answers.Failed fault) own claim =
       gives_confirming fault own (subst (λ (p : List ℕ). Then (Only prepares) (Perhaps (asks.Rename p (content_path c.cache c.computed))) own) is claim)
   persists file is (answers.NoMemory step) own claim = refused OutOfMemory (Placed own)
@@ -242,8 +225,7 @@ module _ (temp : List ℕ) (c : Commit) where
       (more.0, (own, rest, refl, subst (λ (t : PlainAnswer). Claim step t own) (synced_is said u was) claim, more.1))))
 
   gives_moving : (file : PlainTemp) → file.path ≡ temp → Gives (move_in c file) (Found (λ f. move_parts f temp c))
-  gives_moving file is =
-      if_found c.options.durable (syncing c file) (persisting c file) (λ f. syncs_temp ∷ place_parts f temp c) (λ f. place_parts f temp c) (gives_syncing file is) (gives_persisting file is)
+  gives_moving file is = search (rules, if_found, gives_syncing, gives_persisting)
 
   abbrev Rest : Form
   Rest = Found (λ f. folders ∷ move_parts f temp c)
@@ -262,8 +244,7 @@ module _ (temp : List ℕ) (c : Commit) where
   goes_on : (file : PlainTemp) → file.path ≡ temp → (bytes : List ℕ) (run : Moves) (calls : List CallItem) (i : Answered)
       → ((bytes : List ℕ) → Runs (writing c file bytes) run i.0 → Written calls)
       → Runs (write_rest c file bytes) run i.0 → OwnEach run calls → AnsweredInKind calls → Written calls
-  goes_on file is [] run calls i again runs each kinds = ([], calls, refl, tt, gives_persist file is run calls i runs each kinds)
-  goes_on file is (b ∷ bs) run calls i again runs each kinds = again (b ∷ bs) runs
+  goes_on file is bytes run calls i again runs each kinds = grind (arith, gives_persist)
 
   writes_more : (own rest : List CallItem) → Only writes_file own → Written rest → Written (own ++ rest)
   writes_more own rest all (before, later, same, others, more) =
@@ -278,8 +259,7 @@ module _ (temp : List ℕ) (c : Commit) where
   after_writing : (file : PlainTemp) → file.path ≡ temp → (bytes : List ℕ) (said : PlainAnswer) (run : Moves) (calls : List CallItem) (i : Answered) → Fits (steps.Write file bytes) said
       → ((u : PlainTemp) (left : List ℕ) → u.path ≡ temp → Runs (writing c u left) run i.0 → Written calls)
       → Runs (go_on (written_in said) fails (after_write c bytes)) run i.0 → OwnEach run calls → AnsweredInKind calls → Written calls
-  after_writing file is bytes (answers.Wrote u n) run calls i fits again runs each kinds =
-      some_written (n == 0) u (fits.1 ∙ is) (drop n bytes) run calls i (λ left. again u left (fits.1 ∙ is)) runs each kinds
+  after_writing file is bytes (answers.Wrote u n) run calls i fits again runs each kinds = search (rules, some_written)
   after_writing file is bytes (answers.Failed fault) run calls i fits again runs each kinds = refused (IoError fault []) Written run calls i runs each kinds
   after_writing file is bytes (answers.NoMemory step) run calls i fits again runs each kinds = refused OutOfMemory Written run calls i runs each kinds
   after_writing file is bytes said run calls i fits again runs each kinds = refused (IoError faults.Device []) Written run calls i runs each kinds
@@ -298,8 +278,7 @@ module _ (temp : List ℕ) (c : Commit) where
       (λ u left at more. gives_writing run u left rest i at more each (kinds_rest own rest both)) runs each (kinds_rest own rest both)))
 
   gives_write_rest : (file : PlainTemp) (bytes : List ℕ) → file.path ≡ temp → Gives (write_rest c file bytes) Written
-  gives_write_rest file bytes is run calls i runs each kinds =
-      goes_on file is bytes run calls i (λ left more. gives_writing run file left calls i is more each kinds) runs each kinds
+  gives_write_rest file bytes is run calls i runs each kinds = search (rules, goes_on, gives_writing)
 
 -- ---- puts
 

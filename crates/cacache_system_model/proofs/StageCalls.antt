@@ -5,7 +5,7 @@ use Rattle.std_io.specs.declared.io.kind.ErrorKind.{ErrorKind}
 use Rattle.std_io.specs.declared.io.kind.ErrorKind.TheVariants as kind
 use Rattle.cacache_store.specs.declared.store.answer.{Kind.{Kind}, Name.{Name}}
 use Rattle.cacache_store.specs.declared.store.answer.Kind.TheVariants as kinds
-use Rattle.cacache_system.specs.{declared.call.{SystemCall.{SystemCall}, CallResult.{CallResult}, CallItem.{CallItem}}, ListedNames.{is_passed, names_in, with_slash, text_of, is_proper}, Seen.{NumberedFile}, CallsOf.{Stage, Purpose, Reader, over, only, trying, taking_memory, opening, checking, opening_whole, reading_front, measuring, reading_rest, sizing, standing, making, confirming, opening_folder, following, reading_names, asking_kind, to_give, to_sync, to_sync_folder, wants, after, was_interrupted, interrupts, is_absent, is_no_folder, unless_folder, if_folder, above_of, below, climb, unmade, reader, read_once, more_names, entered, ask_kind, next_name, broken_off, Runs}, AnswersOf.{Hint, is_missing, make_dirs, list, read_piece}}
+use Rattle.cacache_system.specs.{declared.call.{SystemCall.{SystemCall}, CallResult.{CallResult}, CallItem.{CallItem}}, Seen.{is_passed, names_in, with_slash, text_of, is_proper, NumberedFile}, CallsOf.{Stage, Purpose, Reader, over, only, trying, taking_memory, opening, checking, opening_whole, reading_front, measuring, reading_rest, sizing, standing, making, confirming, opening_folder, following, reading_names, asking_kind, to_give, to_sync, to_sync_folder, wants, after, was_interrupted, interrupts, is_absent, is_no_folder, unless_folder, if_folder, above_of, below, climb, unmade, reader, read_once, more_names, entered, ask_kind, next_name, broken_off, Runs}, AnswersOf.{Hint, is_missing, make_dirs, list, read_piece}}
 use Rattle.cacache_system.specs.declared.call.SystemCall.TheVariants as asks
 use Rattle.cacache_system.specs.declared.call.CallResult.TheVariants as says
 use Rattle.cacache_system_model.specs.CallForms.{changes_nothing, makes_folder, writes_file, Only}

@@ -1,16 +1,16 @@
 -- The calls of a step, by its answer.
-use Rattle.std.{proofs.Common.{◌≡◌, ◌&&◌, not, ℕ, suc, min, Bool, true, false, if◌then◌else◌, List, [], ◌∷◌, ◌++◌, refl, sym, ap, ap₂, subst, inl, inr}, specs.Prelude.{None}}
+use Rattle.std.{proofs.Common.{rules, arith, ◌≡◌, ℕ, suc, Bool, true, false, if◌then◌else◌, List, [], ◌∷◌, ◌++◌, refl, ap, ap₂, subst, inl, inr}, specs.Prelude.{None}}
 use Rattle.std_io.specs.declared.io.kind.ErrorKind.{ErrorKind}
 use Rattle.std_io.specs.declared.io.kind.ErrorKind.TheVariants as kind
-use Rattle.cacache_core.specs.Contexts.{fault_of}
+use Rattle.cacache_core.specs.Errors.{fault_of}
 use Rattle.cacache_store.specs.{declared.store.{answer.Kind.{Kind}, plain.{PlainFile.{PlainFile}, PlainTemp.{PlainTemp}}}, Plain.{PlainStep, PlainAnswer, plain_step, plain_answer}}
 use Rattle.cacache_store.specs.declared.store.answer.Kind.TheVariants as kinds
 use Rattle.cacache_store.specs.declared.store.step.Step.TheVariants as steps
 use Rattle.cacache_store.specs.declared.store.answer.Answer.TheVariants as answers
-use Rattle.cacache_system.specs.{declared.call.{SystemCall.{SystemCall}, FileInfo.{FileInfo}, CallResult.{CallResult}, CallItem.{CallItem}}, CallLog.{item}, Seen.{NumberedFile, NumberedTemp, NumberedStep, NumberedAnswer}, CallsOf.{Purpose, over, only, trying, appending, opening, checking, opened, to_sync, to_sync_folder, was_interrupted, interrupts, if_folder, unless_folder, Runs}, AnswersOf.{Hint, no_hint, persist, first, answer_of, failed_with, refuses_memory, leaves_a_part}}
+use Rattle.cacache_system.specs.{declared.call.{SystemCall.{SystemCall}, FileInfo.{FileInfo}, CallResult.{CallResult}, CallItem.{CallItem}}, Seen.{item, NumberedFile, NumberedTemp, NumberedStep, NumberedAnswer}, CallsOf.{Purpose, over, only, trying, appending, opening, checking, opened, to_sync, to_sync_folder, was_interrupted, interrupts, if_folder, unless_folder, Runs}, AnswersOf.{Hint, no_hint, persist, first, answer_of, failed_with}}
 use Rattle.cacache_system.specs.declared.call.SystemCall.TheVariants as asks
 use Rattle.cacache_system.specs.declared.call.CallResult.TheVariants as says
-use Rattle.cacache_folder.specs.Interruptions.{interrupted}
+use Rattle.cacache_folder.specs.Goings.{interrupted}
 use Rattle.cacache_calls.specs.Licence.{May, allows, looking_on}
 use Rattle.cacache_system_model.specs.CallForms.{changes_nothing, makes_folder, writes_file, prepares, Form, Only, AnsweredInKind, One, Then, Syncs, Perhaps, Has, syncs_temp, moves}
 use Rattle.cacache_system_model.proofs.{StageCalls.{same_call, only_folders, only_writes, only_looks, piece_looks, list_looks}, Arriving.{not_true, opens_or_fails, appends_or_fails, tells_or_fails, in_kind, is_item, one_call, over_none, Arrives, After, arrives, up_persists}}
@@ -32,8 +32,7 @@ plain_said answer = plain_answer plain_file plain_temp answer
 -- ---- answers of steps that failed
 
 by_failed : (P : NumberedAnswer → Type 0) (step : NumberedStep) (why : ErrorKind) → P (answers.NoMemory step) → P (answers.Failed (fault_of why)) → P (failed_with step why)
-by_failed P step why m f =
-    elim (refuses_memory why && not (leaves_a_part step)) as (λ b. P (if b then answers.NoMemory step else answers.Failed (fault_of why))) [ true ↦ m | false ↦ f ]
+by_failed P step why m f = search rules
 
 -- ---- what holds of the calls of a step with this answer
 
@@ -68,34 +67,24 @@ creates_one p [] f (inr is) = absurd is
 creates_one p (x ∷ calls) f runs = (says.Opened f, one_call (asks.CreateNew p 384) (x ∷ calls) (says.Opened f) runs)
 
 creates_claim : (hint : Hint) (p : List ℕ) (calls : List CallItem) (end : CallResult) → Runs (first hint (steps.CreateTemp p)) calls end → Claim (steps.CreateTemp p) (plain_said (answer_of (steps.CreateTemp p) end)) calls
-creates_claim hint p calls (says.Opened f) runs = creates_one p calls f runs
-creates_claim hint p calls (says.Failed why) runs = by_failed (λ a. Claim (steps.CreateTemp p) (plain_said a) calls) (steps.CreateTemp p) why tt tt
-creates_claim hint p calls end runs = tt
+creates_claim hint p calls end runs = grind (arith, creates_one, by_failed)
 
 persisted : (temp : NumberedTemp) (p : List ℕ) (calls before rest : List CallItem) (end : CallResult) → calls ≡ before ++ rest → Only prepares before → rest ≡ item (asks.Rename temp.path p) end ∷ []
     → Claim (steps.Persist (plain_temp temp) p) (plain_said (answer_of (steps.Persist temp p) end)) calls
-persisted temp p calls before rest says.Done same all is = (before, rest, same, all, is)
-persisted temp p calls before rest (says.Failed why) same all is =
-    by_failed (λ a. Claim (steps.Persist (plain_temp temp) p) (plain_said a) calls) (steps.Persist temp p) why (before, rest, same, all, inr (says.Failed why, is)) (before, rest, same, all, inr (says.Failed why, is))
-persisted temp p calls before rest end same all is = (before, rest, same, all, inr (end, is))
+persisted temp p calls before rest end same all is = grind (arith, by_failed)
 
 persists_claim : (temp : NumberedTemp) (p : List ℕ) (calls : List CallItem) (end : CallResult) → Arrives (only (asks.Rename temp.path p)) calls end
     → Claim (steps.Persist (plain_temp temp) p) (plain_said (answer_of (steps.Persist temp p) end)) calls
-persists_claim temp p calls end (inl (all, (why, is))) =
-    subst (λ (r : CallResult). Claim (steps.Persist (plain_temp temp) p) (plain_said (answer_of (steps.Persist temp p) r)) calls) (sym is)
-    (by_failed (λ a. Claim (steps.Persist (plain_temp temp) p) (plain_said a) calls) (steps.Persist temp p) why (calls, [], append_none calls, all, inl refl) (calls, [], append_none calls, all, inl refl))
-persists_claim temp p calls end (inr (before, rest, same, all, runs)) =
-    persisted temp p calls before rest end same all (one_call (asks.Rename temp.path p) rest end runs)
+persists_claim temp p calls end (inl (all, (why, is))) = search (rules, by_failed, append_none)
+persists_claim temp p calls end (inr (before, rest, same, all, runs)) = search (rules, persisted, one_call)
 
 -- ---- appends
 
 interrupts_is : (why : ErrorKind) → interrupts why ≡ true → why ≡ kind.Interrupted
-interrupts_is kind.Interrupted is = refl
-interrupts_is why is = absurd (not_true is)
+interrupts_is why is = grind (arith, not_true)
 
 interrupted_is : (said : CallResult) → was_interrupted said ≡ true → said ≡ says.Failed kind.Interrupted
-interrupted_is (says.Failed why) is = ap says.Failed (interrupts_is why is)
-interrupted_is said is = absurd (not_true is)
+interrupted_is said is = grind (arith, interrupts_is, not_true)
 
 -- the call was made until no signal interrupted it
 abbrev Insisted : SystemCall → CallResult → Form
@@ -134,11 +123,7 @@ sends_line p b (x ∷ calls) n kinds runs =
     ]
 
 appends_claim : (p b : List ℕ) (calls : List CallItem) (end : CallResult) → AnsweredInKind calls → Arrives (appending p b) calls end → Claim (steps.Append p b) (plain_said (answer_of (steps.Append p b) end)) calls
-appends_claim p b calls (says.Count n) kinds (inl (all, (why, is))) = absurd cc
-appends_claim p b calls (says.Count n) kinds (inr (before, rest, same, all, runs)) =
-    (before, rest, same, all, sends_line p b rest n (kinds_rest before rest (subst AnsweredInKind same kinds)) runs)
-appends_claim p b calls (says.Failed why) kinds arrived = by_failed (λ a. Claim (steps.Append p b) (plain_said a) calls) (steps.Append p b) why tt tt
-appends_claim p b calls end kinds arrived = tt
+appends_claim p b calls end holds arrived = grind (arith, sends_line, kinds_rest, by_failed)
 
 -- ---- syncs
 
@@ -153,17 +138,13 @@ not_done why calls runs =
     cc
 
 syncs_file : (f : ℕ) (what : Kind) (calls : List CallItem) → Runs (unless_folder what (only (asks.Sync f))) calls says.Done → calls ≡ item (asks.Sync f) says.Done ∷ []
-syncs_file f kinds.Folder calls runs = absurd (not_done kind.IsADirectory calls runs)
-syncs_file f _ calls runs = one_call (asks.Sync f) calls says.Done runs
+syncs_file f what calls runs = grind (arith, not_done, one_call)
 
 syncs_folder : (f : ℕ) (what : Kind) (calls : List CallItem) → Runs (if_folder what kind.NotADirectory (only (asks.Sync f))) calls says.Done → calls ≡ item (asks.Sync f) says.Done ∷ []
-syncs_folder f kinds.Folder calls runs = one_call (asks.Sync f) calls says.Done runs
-syncs_folder f _ calls runs = absurd (not_done kind.NotADirectory calls runs)
+syncs_folder f what calls runs = grind (arith, one_call, not_done)
 
 syncs_opened : (purpose : Purpose) → ToSync purpose → (f : ℕ) (info : FileInfo) (calls : List CallItem) → Runs (opened purpose f info) calls says.Done → calls ≡ item (asks.Sync f) says.Done ∷ []
-syncs_opened to_sync to f info calls runs = syncs_file f info.kind calls runs
-syncs_opened to_sync_folder to f info calls runs = syncs_folder f info.kind calls runs
-syncs_opened purpose to f info calls runs = absurd to
+syncs_opened purpose to f info calls runs = grind (arith, syncs_file, syncs_folder)
 
 syncs_checked : (purpose : Purpose) → ToSync purpose → (f : ℕ) (calls : List CallItem) → AnsweredInKind calls → Runs (checking purpose f) calls says.Done
     → (info : FileInfo) × (calls ≡ item (asks.StatFile f) (says.Info info) ∷ item (asks.Sync f) says.Done ∷ [])
@@ -188,19 +169,13 @@ syncs_path purpose to p (x ∷ calls) kinds runs =
     ]
 
 file_claim : (p : List ℕ) (calls : List CallItem) (end : CallResult) → AnsweredInKind calls → Runs (opening to_sync p) calls end → Claim (steps.SyncFile p) (plain_said (answer_of (steps.SyncFile p) end)) calls
-file_claim p calls says.Done kinds runs = syncs_path to_sync tt p calls kinds runs
-file_claim p calls (says.Failed why) kinds runs = by_failed (λ a. Claim (steps.SyncFile p) (plain_said a) calls) (steps.SyncFile p) why tt tt
-file_claim p calls end kinds runs = tt
+file_claim p calls end holds runs = grind (arith, syncs_path, by_failed)
 
 folder_claim : (p : List ℕ) (calls : List CallItem) (end : CallResult) → AnsweredInKind calls → Runs (opening to_sync_folder p) calls end → Claim (steps.SyncDir p) (plain_said (answer_of (steps.SyncDir p) end)) calls
-folder_claim p calls says.Done kinds runs = syncs_path to_sync_folder tt p calls kinds runs
-folder_claim p calls (says.Failed why) kinds runs = by_failed (λ a. Claim (steps.SyncDir p) (plain_said a) calls) (steps.SyncDir p) why tt tt
-folder_claim p calls end kinds runs = tt
+folder_claim p calls end holds runs = grind (arith, syncs_path, by_failed)
 
 temp_claim : (t : NumberedTemp) (calls : List CallItem) (end : CallResult) → calls ≡ item (asks.Sync t.number) end ∷ [] → Claim (steps.SyncTemp (plain_temp t)) (plain_said (answer_of (steps.SyncTemp t) end)) calls
-temp_claim t calls says.Done is = (t.number, is)
-temp_claim t calls (says.Failed why) is = by_failed (λ a. Claim (steps.SyncTemp (plain_temp t)) (plain_said a) calls) (steps.SyncTemp t) why tt tt
-temp_claim t calls end is = tt
+temp_claim t calls end is = grind (arith, by_failed)
 
 -- ---- all steps
 
@@ -218,10 +193,4 @@ step_claims step hint calls end kinds runs = tt
 
 -- a step that looks or lists changes nothing
 pub step_looks : (step : NumberedStep) (hint : Hint) (calls : List CallItem) (end : CallResult) → May (allows looking_on (plain_of step)) → Runs (first hint step) calls end → Only changes_nothing calls
-step_looks (steps.ReadAll p) hint calls end may runs = only_looks calls (first hint (steps.ReadAll p)) end tt runs
-step_looks (steps.Open p) hint calls end may runs = only_looks calls (first hint (steps.Open p)) end tt runs
-step_looks (steps.Read f max) hint calls end may runs = only_looks calls (first hint (steps.Read f max)) end (piece_looks f (min max 131072)) runs
-step_looks (steps.Exists p) hint calls end may runs = only_looks calls (first hint (steps.Exists p)) end refl runs
-step_looks (steps.Size p) hint calls end may runs = only_looks calls (first hint (steps.Size p)) end tt runs
-step_looks (steps.ReadDir p) hint calls end may runs = only_looks calls (first hint (steps.ReadDir p)) end (list_looks p) runs
-step_looks step hint calls end may runs = absurd may
+step_looks step hint calls end may runs = grind (arith, only_looks, piece_looks, list_looks)

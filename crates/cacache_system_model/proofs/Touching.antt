@@ -1,14 +1,14 @@
 -- What a step does at a path on a system, in view of the temporary files that are open.
-use Rattle.std.proofs.Common.{◌≡◌, ◌⊎◌, inl, inr, ℕ, Bool, true, false, cond, if◌then◌else◌, List, [], Option, None, Some, refl, sym, ap, subst, ◌∙◌}
-use Rattle.std.specs.Prelude.{Result, Ok, Err}
-use Rattle.cacache_core.specs.{declared.errors.Fault.{Fault}, PathNames.{Names, names_of}}
+use Rattle.std.proofs.{lemmas.Grind.{common_steps}, Common.{arith, ◌≡◌, ◌⊎◌, ℕ, Bool, true, false, cond, if◌then◌else◌, List, [], Option, None, Some, refl, sym, ap, subst, ◌∙◌}}
+use Rattle.std.specs.Prelude.{Result, Ok}
+use Rattle.cacache_core.specs.{declared.errors.Fault.{Fault}, Paths.{Names, names_of}}
 use Rattle.cacache_store.specs.{declared.store.plain.PlainTemp.{PlainTemp}, Plain.{PlainStep, PlainAnswer}}
 use Rattle.cacache_store.specs.declared.store.step.Step.TheVariants as steps
 use Rattle.cacache_store.specs.declared.store.answer.Answer.TheVariants as answers
-use Rattle.cacache_disk.specs.{declared.{luck.Luck.{Luck, TheVariants.{Fail}}, node.Node.{Node, TheVariants.{File}}}, Tree.{Tree, look, put, cut, same_path}, LedTo.{writable, free, removable}, Apply.{apply, plain, unless, fails, fault_told, made_temp}}
-use Rattle.cacache_disk.proofs.{Maps.{same_path-true}, PutNodes.{look-cut}, FoundNodes.{free_ok, free_none, removable_ok}, Changes.{TreeChange, NoChange, PutNode, MakeFolders, CutNode, Makes, Puts, At, at_rest, at_put, at_cut, step_at}}
-use Rattle.cacache_loss.{specs.Fixing.{moves_file, moved_to, between, writes_at}, proofs.StepCases.{PersistCase, refused, moved, persist_case, put_misses, cut_misses}}
-use Rattle.cacache_system_model.specs.Mirrors.{temps_after, all_but, without, with_new, IsNoTemp, SparesOpen}
+use Rattle.cacache_disk.specs.{declared.{luck.Luck.{Luck, TheVariants.{Fail}}, node.Node.{Node, TheVariants.{File}}}, Tree.{Tree, look, put, cut, same_path}, LedTo.{free, removable}, Apply.{apply, plain, unless, fails, fault_told, made_temp}}
+use Rattle.cacache_disk.proofs.{Maps.{same_path-true}, PutNodes.{look-cut}, FoundNodes.{free_ok, free_none, removable_ok}, Changes.{TreeChange, Makes, Puts, At, at_rest, at_put, at_cut, step_at}}
+use Rattle.cacache_loss.{specs.Fixing.{moves_file, moved_to, writes_at}, proofs.StepCases.{PersistCase, refused, moved, persist_case, put_misses, cut_misses}}
+use Rattle.cacache_system_model.specs.Mirrors.{temps_after, without, with_new, IsNoTemp, SparesOpen}
 
 -- Nothing changes at a path, or no temporary file is open there, or something comes to where nothing was or goes, or a file
 -- moves there, or the step's temporary file is there and grows.
@@ -28,12 +28,10 @@ TouchedBy temps t step q o = Touched temps (temps_after temps step o.0) t o.1 st
 
 unless_case : {A : Type 0} (P : PlainAnswer × Tree → Type 0) (t : Tree) (r : Result A Fault) (go : A → PlainAnswer × Tree)
     → ((fault : Fault) → P (answers.Failed fault, t)) → ((a : A) → r ≡ Ok a → P (go a)) → P (unless r t go)
-unless_case P t (Ok a) go h k = k a refl
-unless_case P t (Err fault) go h k = h fault
+unless_case P t r go h k = grind (arith, common_steps)
 
 fails_case : (P : PlainAnswer × Tree → Type 0) (t : Tree) (own : Option Fault) (fault : Fault) → ((fault : Fault) → P (answers.Failed fault, t)) → P (fails own fault t t)
-fails_case P t None fault h = h _
-fails_case P t (Some own) fault h = h own
+fails_case P t own fault h = grind (arith, common_steps)
 
 module _ (temps : Names → Bool) (t : Tree) (q : Names) where
   create_so : (p : List ℕ) (names : Names) (c : Bool) → free t p ≡ Ok names → same_path q names ≡ c
@@ -67,15 +65,7 @@ module _ (temps : Names → Bool) (t : Tree) (q : Names) where
 
   persist_so : (f : PlainTemp) (p bytes : List ℕ) (old new : Names) (a b : Bool) → names_of f.path ≡ Ok old → names_of p ≡ Ok new → same_path q new ≡ a → same_path q old ≡ b
       → TouchedBy temps t (steps.Persist f p) q (answers.Done, put (cut t old) new (File bytes))
-  persist_so f p bytes old new true b from to at away =
-      arrives (ap (λ (r : Result Names Fault). moved_to (between r (names_of p)) q) from ∙ ap (λ (r : Result Names Fault). moved_to (between (Ok old) r) q) to ∙ at)
-  persist_so f p bytes old new false true from to at away =
-      goes (put_misses (cut t old) new q (File bytes) at ∙ look-cut t old q ∙ ap (λ (b : Bool). cond b None (look t q)) away)
-  persist_so f p bytes old new false false from to at away =
-      rests (put_misses (cut t old) new q (File bytes) at ∙ cut_misses t old q away)
-      (ap (λ (r : Result Names Fault). without (without temps r) (names_of p) q) from
-      ∙ ap (λ (r : Result Names Fault). without (all_but temps old) r q) to
-      ∙ ap (λ (b : Bool). if b then false else all_but temps old q) at ∙ ap (λ (b : Bool). if b then false else temps q) away)
+  persist_so f p bytes old new a b from to at away = grind (arith, put_misses, look-cut, cut_misses)
 
   persist_touched : (f : PlainTemp) (p : List ℕ) (o : PlainAnswer × Tree) → PersistCase t f p o → TouchedBy temps t (steps.Persist f p) q o
   persist_touched f p o (refused fault is) = subst (TouchedBy temps t (steps.Persist f p) q) (sym is) (rests refl refl)
@@ -98,33 +88,13 @@ module _ (temps : Names → Bool) (t : Tree) (q : Names) where
 
   -- such a step puts nothing over an open temporary file
   not_over : (step : PlainStep) (c : TreeChange) (node : Node) → IsOther step → SparesOpen temps t step → Makes t step c → Puts t c q node → (temps q ≡ false) ⊎ (look t q ≡ None)
-  not_over (steps.MakeDirs p) (MakeFolders names most) node other spares makes here = inr here.0
-  not_over (steps.Append p bytes) (PutNode names new) node other spares makes here = inl (spared (writable t p) names spares makes here.0)
-  not_over (steps.Symlink target p) (PutNode names new) node other spares makes here = inr (nothing_free p names makes.0 here.0)
-  not_over (steps.Copy p to) (PutNode names new) node other spares makes here = inl (spared (writable t to) names spares.1 makes here.0)
-  not_over (steps.Reflink p to) (PutNode names new) node other spares makes here = inr (nothing_free to names makes here.0)
-  not_over (steps.HardLink p to) (PutNode names new) node other spares makes here = inr (nothing_free to names makes.0 here.0)
-  not_over (steps.CreateTemp p) c node other spares makes here = absurd other
-  not_over (steps.Persist f p) c node other spares makes here = absurd other
-  not_over (steps.RemoveFile p) c node other spares makes here = absurd other
-  not_over step NoChange node other spares makes here = absurd here
-  not_over step (CutNode names) node other spares makes here = absurd here
-  not_over step c node other spares makes here = absurd makes
+  not_over step c node other spares makes here = grind (arith, spared, nothing_free)
 
   same_open : (step : PlainStep) (answer : PlainAnswer) → IsOther step → temps_after temps step answer q ≡ temps q
-  same_open (steps.CreateTemp p) answer other = absurd other
-  same_open (steps.Persist f p) answer other = absurd other
-  same_open (steps.RemoveFile p) answer other = absurd other
-  same_open step answer other = refl
+  same_open step answer other = grind (arith, common_steps)
 
   other_so : (step : PlainStep) (o : PlainAnswer × Tree) (c : TreeChange) → IsOther step → SparesOpen temps t step → Makes t step c → At t c q (look o.1 q) → TouchedBy temps t step q o
-  other_so step o c other spares makes (at_rest same) = rests same (same_open step o.0 other)
-  other_so step o c other spares makes (at_put node here is) =
-      elim (not_over step c node other spares makes here) [
-        | inl none ↦ apart none (same_open step o.0 other ∙ none)
-        | inr none ↦ comes none
-      ]
-  other_so step o c other spares makes (at_cut here is) = goes is
+  other_so step o c other spares makes holds = grind (arith, at_rest, same_open, at_put, not_over, at_cut)
 
   other_touched : (step : PlainStep) (luck : Luck) → IsOther step → SparesOpen temps t step → TouchedBy temps t step q (apply t step luck)
   other_touched step luck other spares = let at = step_at t step luck q in other_so step (apply t step luck) at.0 other spares at.1 at.2

@@ -1,6 +1,6 @@
 -- What a path leads to.
 use Rattle.std.{proofs.Common.{◌≡◌, ℕ, zero, suc, List, refl, sym, ap, ◌∙◌}, specs.Prelude.{Option, None, Some, Result, Ok, Err}}
-use Rattle.cacache_core.specs.{declared.errors.Fault.{Fault, TheVariants.{NotFound, TooDeep}}, PathNames.{Names}}
+use Rattle.cacache_core.specs.{declared.errors.Fault.{Fault, TheVariants.{NotFound, TooDeep}}, Paths.{Names}}
 use Rattle.cacache_disk.specs.{declared.node.Node.{Node, TheVariants.{Folder, File, Link}}, Tree.{Tree, look}, LedTo.{and_then, on_link, followed, standing, leads, found, file_at, folder, place, bytes_there, where_there, where_folder}}
 
 -- no link is there

@@ -1,10 +1,8 @@
 mod Parts
 mod Places
 mod Moments
-mod Started
 mod Runs
 mod Lookups
 mod Names
 mod Writes
-mod DiskSteps
 mod Cases

@@ -1,7 +1,5 @@
 pub mod Fitting
 pub mod Files
-pub mod Failing
-pub mod TreeKept
 pub mod OpenTemps
 pub mod Following
 pub mod Covering
@@ -10,10 +8,8 @@ pub mod UnchangedCalls
 pub mod SafeStages
 pub mod CopyTargets
 pub mod ListCalls
-pub mod FreshFiles
 pub mod StayingOpen
 pub mod PathsOf
-pub mod Removals
 pub mod OtherTemps
 pub mod NextActs
 pub mod Handles

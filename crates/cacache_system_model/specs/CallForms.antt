@@ -1,10 +1,13 @@
--- The system calls of a step that succeeded, and of many steps one after another.
-use Rattle.std.specs.Prelude.{◌≡◌, ◌⊎◌, ◌≤◌, length, ℕ, Bool, true, false, if◌then◌else◌, List, [], ◌∷◌, ◌++◌, Option}
-use Rattle.cacache_store.specs.{Plain.{plain_answer}, Fits.{is_no_memory}}
-use Rattle.cacache_system.specs.{declared.call.{SystemCall.{SystemCall}, FileInfo.{FileInfo}, CallResult.{CallResult}, CallItem.{CallItem}}, CallLog.{item, GainsCalls}, CallsOf.{Runs}, AnswersOf.{Hint, first, answer_of}}
+-- The system calls of steps that succeeded, and what the log of a store says of one.
+use Rattle.std.specs.Prelude.{◌≡◌, ◌⊎◌, ◌≤◌, length, ℕ, Bool, true, false, if◌then◌else◌, List, [], ◌∷◌, ◌++◌, Option, Some}
+use Rattle.cacache_store.specs.Plain.{plain_answer, is_no_memory}
+use Rattle.cacache_system.specs.{declared.call.{SystemCall.{SystemCall}, FileInfo.{FileInfo}, CallResult.{CallResult}, CallItem.{CallItem}}, Seen.{item, GainsCalls, NumberedStep, NumberedAnswer}, CallsOf.{Runs, RunLogged}, AnswersOf.{Hint, first, answer_of}}
+use Rattle.cacache_folder.specs.{FolderHandles.{seen_file, seen_temp}, FolderNumbers.{numbered, answered}, Goings.{interrupted}, StepsMade.{StepMade}}
+use Rattle.cacache_disk.specs.{declared.luck.Luck.{Luck}, Apply.{apply}}
+use Rattle.cacache_system_model.specs.{Machine.{Machine}, Calls.{OccursSomehow, EachCall}, Laws.{step_on, answer_on, outcome, LeavesFresh, IsDone}, Premises.{Premise}}
 use Rattle.cacache_system.specs.declared.call.SystemCall.TheVariants as asks
 use Rattle.cacache_system.specs.declared.call.CallResult.TheVariants as says
-use Rattle.cacache_folder.specs.{FolderHandles.{seen_file, seen_temp}, FolderNumbers.{numbered, answered}, Interruptions.{interrupted}, StepsMade.{StepMade}}
+use Rattle.cacache_store.specs.declared.store.answer.Answer.TheVariants as answers
 
 -- ---- kinds of calls
 
@@ -170,3 +173,23 @@ LoggedCalls number (made ∷ later) old new calls =
     × GainsCalls old between own × (answered number made.1 ≡ answer_of (numbered number made.0) end)
     × LoggedCalls number later between new rest
     × (calls ≡ kept (is_no_memory (plain_answer seen_file seen_temp made.1)) own ++ rest)
+
+-- ---- what the log of a store says of a step, on a machine on which its calls happened
+
+-- The answer and the tree are the disk's under some luck, or the step came back and nothing changed, or it left a
+-- file that it failed to use.
+abbrev pub IsDisks : Machine → NumberedStep → NumberedAnswer → Machine → Type 0
+IsDisks m step answer after =
+    ((luck : Luck)
+    × (apply m.tree (step_on m step) luck ≡ outcome (answer_on after answer) after.tree))
+    ⊎ ((answer ≡ answers.NoMemory step) × (after.tree ≡ m.tree))
+    ⊎ LeavesFresh m step answer after
+
+-- if a log gained a run of a step's calls, as the contract of a store of real folders says, and they happened so
+abbrev pub LogsAgree : Type 0
+LogsAgree =
+    (m after : Machine) (hint : Hint) (step : NumberedStep) (answer : NumberedAnswer)
+    (end : CallResult) (old gained : List CallItem)
+    → RunLogged (first hint step) end (Some old) (Some (old ++ gained))
+    → answer ≡ answer_of step end → EachCall OccursSomehow m gained after
+    → Premise m hint step → IsDone m step → IsDisks m step answer after

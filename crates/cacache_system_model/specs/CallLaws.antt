@@ -2,8 +2,8 @@
 use Rattle.std.specs.Prelude.{◌≡◌, ℕ, Bool, true, false, if◌then◌else◌, List, [], ◌∷◌, ◌++◌, Option, None, Some, map}
 use Rattle.cacache_store.specs.declared.store.log.LogItem.{LogItem, TheVariants.{Made}}
 use Rattle.cacache_system.specs.declared.call.CallItem.{CallItem}
-use Rattle.cacache_folder.specs.{StepsMade.{StepMade, log_of}, CallsByLog.{CallsInParts}}
-use Rattle.cacache_calls.specs.{declared.{command.{Command.{Command}, Put.{Put}, Insert.{Insert}, Delete.{Delete}}, reply.Reply.{Reply}, carried.Commit.{Commit}}, StepPaths.{temp_path, content_path, content_folders, bucket_path, bucket_folders}, State.{Site, Insertion}, Inserting.{bucket_line, insertion, deletion}, Storing.{insertion_of, put_commit}, Table.{opening}, Runs.{Moves, Runs}, Effects.{IsRefused}, Licence.{looking_on, KeepsTo}}
+use Rattle.cacache_folder.specs.StepsMade.{StepMade, log_of, CallsInParts}
+use Rattle.cacache_calls.specs.{declared.{command.{Command.{Command}, Put.{Put}, Insert.{Insert}, Delete.{Delete}}, reply.Reply.{Reply}, carried.Commit.{Commit}}, Steps.{temp_path, content_path, content_folders, bucket_path, bucket_folders}, State.{Site, Insertion}, Inserting.{bucket_line, insertion, deletion}, Storing.{insertion_of, put_commit}, Table.{opening}, Runs.{Moves, Runs}, Effects.{IsRefused}, Licence.{looking_on, KeepsTo}}
 use Rattle.cacache_calls.specs.declared.command.Command.TheVariants as commands
 use Rattle.cacache_system_model.specs.CallForms.{changes_nothing, Form, Only, AnsweredInKind, Part, folders, creates, writes, syncs_temp, moves, finds, sends, syncs, InParts, LoggedCalls}
 

@@ -1,13 +1,13 @@
 -- Steps one after the other on a system, and on a disk in memory that mirrors it.
 use Rattle.std.specs.Prelude.{◌≡◌, ◌⊎◌, ℕ, Bool, true, List, [], ◌∷◌, None, IsPermutation}
 use Rattle.std_io.specs.declared.io.kind.ErrorKind.TheVariants as kind
-use Rattle.cacache_core.specs.PathNames.{Names}
+use Rattle.cacache_core.specs.Paths.{Names}
 use Rattle.cacache_store.specs.{declared.store.answer.Name.{Name}, Plain.{PlainAnswer}}
 use Rattle.cacache_store.specs.declared.store.step.Step.TheVariants as steps
 use Rattle.cacache_store.specs.declared.store.answer.Answer.TheVariants as answers
 use Rattle.cacache_disk.specs.{declared.luck.Luck.{Luck, TheVariants.{Plain}}, Tree.{Tree}, Apply.{apply}}
 use Rattle.cacache_system.specs.{declared.call.{CallItem.{CallItem}, CallResult.{CallResult, TheVariants.{Failed}}}, Seen.{NumberedStep}, CallsOf.{Runs}, AnswersOf.{Hint, first, answer_of}}
-use Rattle.cacache_system_model.specs.{Machine.{Machine}, Calls.{GoesWell, OccursSomehow, EachCall}, Laws.{step_on, answer_on, outcome, LeavesFresh, IsDone}, OneCall.{StillStands}, Listing.{ListsPlainly}, Premises.{Premise, HasPlainLaw}, Mirrors.{Mirrors, temps_after, SparesOpen}}
+use Rattle.cacache_system_model.specs.{Machine.{Machine}, Calls.{GoesWell, OccursSomehow, EachCall}, Laws.{step_on, answer_on, outcome, LeavesFresh, IsDone}, StepLaws.{StillStands}, Listing.{ListsPlainly}, Premises.{Premise, HasPlainLaw}, Mirrors.{Mirrors, temps_after, SparesOpen}}
 
 -- a step that was made: the machine before and after it, how its calls began, what they were, and their end
 pub record StepMade : Type 0 where
@@ -56,8 +56,8 @@ IsMade temps s =
     Runs (first s.hint s.step) s.items s.end
     × EachCall OccursSomehow s.before s.items s.after × IsCovered temps s
 
--- A disk does the step under some luck with the same answer, or the step came back; either way the disk then mirrors the
--- machine. Or the step left a file that it failed to use.
+-- a disk does the step under some luck with the same answer, or the step came back, and the disk then mirrors the
+-- machine; or the step left a file that it failed to use
 abbrev pub OnDisk : (Names → Bool) → Tree → StepMade → Type 0
 OnDisk temps d s =
     ((luck : Luck) × (new : Tree)

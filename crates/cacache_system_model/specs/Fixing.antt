@@ -1,10 +1,10 @@
 -- What the syncs of many steps fix on a system, and what a loss of power then leaves there and on a disk in memory.
 use Rattle.std.specs.{Prelude.{◌≡◌, ◌⊎◌, ◌-◌, ◌||◌, Bool, true, false, List, [], ◌∷◌, Option, None, Some, if◌then◌else◌, length, take}, List.{AllByRecursion}}
-use Rattle.cacache_core.specs.{declared.errors.Fault.{Fault}, PathNames.{Names}}
+use Rattle.cacache_core.specs.{declared.errors.Fault.{Fault}, Paths.{Names}}
 use Rattle.cacache_store.specs.{declared.store.step.Step.TheVariants.{Copy}, Plain.{PlainStep, PlainAnswer}}
 use Rattle.cacache_store.specs.declared.store.answer.Answer.TheVariants as answers
 use Rattle.cacache_disk.specs.{declared.node.Node.{Node, TheVariants.{Folder, File}}, Tree.{same_path, is_child}, Apply.{apply}}
-use Rattle.cacache_value.specs.Traces.{Move}
+use Rattle.cacache_value.specs.Acts.{Move}
 use Rattle.cacache_loss.specs.{Fixing.{Fixed, synced, is_sync, changed, all_fixed}, Loss.{Loss, lost_at}, Moments.{Moment, after, lost_then, EachMove}, ChangedNames.{opening}}
 use Rattle.cacache_system.specs.{Seen.{NumberedStep}, AnswersOf.{answer_of}}
 use Rattle.cacache_system_model.specs.{Machine.{Machine, SyncedNode, in_doubt}, Laws.{step_on, answer_on, LeavesFresh}, Mirrors.{hollow, Mirrors}, Chains.{StepMade, temps_left, AreMade, SameNames}}

@@ -1,13 +1,13 @@
--- That the calls of a step answer and leave what the disk's table of steps says.
-use Rattle.std.specs.{Prelude.{◌≡◌, ◌⊎◌, ◌++◌, ◌∷◌, ℕ, List, [], None, Ok, option_map, length, drop}, Option.{unwrap_or}}
-use Rattle.std_io.specs.declared.io.kind.ErrorKind.TheVariants as kind
+-- That the calls of a step answer and leave what the disk's table of steps says, and that the model can be met.
+use Rattle.std.specs.{Prelude.{◌≡◌, ◌⊎◌, ◌++◌, ◌∷◌, ℕ, List, [], None, Ok, option_map, length, drop, Option, IsPermutation, IfOk}, Option.{unwrap_or}}
 use Rattle.cacache_store.specs.{declared.store.plain.{PlainTemp.{PlainTemp}, PlainFile.{PlainFile}}, Plain.{PlainStep, PlainAnswer}}
+use Rattle.cacache_core.specs.{declared.errors.Fault.{Fault}, Paths.{Names}}
+use Rattle.cacache_disk.specs.{declared.{luck.Luck.{Luck, TheVariants.{Plain}}, node.Node.TheVariants.{File}}, Tree.{Tree, look, put, bytes_of, listing}, LedTo.{free, found, standing}, Apply.{apply, fault_told}}
+use Rattle.cacache_system.specs.{declared.call.{SystemCall.{SystemCall, TheVariants.{OpenFolder, RealPath}}, CallItem.{CallItem}, CallResult.{CallResult, TheVariants.{Failed}}}, Seen.{NumberedFile, NumberedTemp, NumberedStep, NumberedAnswer, step_as, answer_as}, CallsOf.{Stage, Runs, fresh_name}, AnswersOf.{Hint, first, answer_of}}
+use Rattle.cacache_system_model.specs.{Machine.{OpenFile, node_of, Machine, with_empty, IsUnused, Spells}, Calls.{GoesWell, OccursSomehow, EachCall}}
+use Rattle.std_io.specs.declared.io.kind.ErrorKind.TheVariants as kind
 use Rattle.cacache_store.specs.declared.store.answer.Answer.TheVariants as answers
 use Rattle.cacache_store.specs.declared.store.step.Step.TheVariants as steps
-use Rattle.cacache_core.specs.{declared.errors.Fault.{Fault}, PathNames.{Names}}
-use Rattle.cacache_disk.specs.{declared.{luck.Luck.{Luck, TheVariants.{Plain}}, node.Node.TheVariants.{File}}, Tree.{Tree, look, put, bytes_of}, LedTo.{free}, Apply.{apply, fault_told}}
-use Rattle.cacache_system.specs.{declared.call.{SystemCall.{SystemCall}, CallItem.{CallItem}, CallResult.{CallResult, TheVariants.{Failed}}}, Seen.{NumberedFile, NumberedTemp, NumberedStep, NumberedAnswer, step_as, answer_as}, CallsOf.{Stage, Runs, fresh_name}, AnswersOf.{Hint, first, answer_of}}
-use Rattle.cacache_system_model.specs.{Machine.{OpenFile, node_of, Machine, with_empty}, Calls.{GoesWell, OccursSomehow, EachCall}}
 
 -- ---- handles on a machine
 
@@ -102,3 +102,23 @@ MayBreak m hint step =
 pub record Agrees (m : Machine) (hint : Hint) (step : NumberedStep) : Type 0 where
   pub plainly : GoesPlainly m hint step
   pub breaking : MayBreak m hint step
+
+-- ---- that the model can be met
+
+-- some number is unused
+abbrev pub HasRoom : Machine → Type 0
+HasRoom m = (number : ℕ) × IsUnused m number
+
+-- what a real path is asked for has one, and a folder that is opened has an order of its names
+abbrev pub CanSpell : Machine → SystemCall → Type 0
+CanSpell m (RealPath path) =
+    IfOk (found m.tree path) (λ names. (text : List ℕ) × Spells m.tree text names)
+CanSpell m (OpenFolder path) =
+    IfOk (standing m.tree path) (λ names. IsPermutation (listing m.tree names) (m.order names))
+CanSpell m call = Unit {0}
+
+-- each call can happen as `GoesWell` says on each such machine
+abbrev pub CallsCanGoWell : Type 0
+CallsCanGoWell =
+    (most : Option ℕ) (m : Machine) (call : SystemCall) → HasRoom m → CanSpell m call
+    → (said : CallResult) × (after : Machine) × GoesWell most m call said after

@@ -1,12 +1,12 @@
 -- The laws on listings.
 use Rattle.std.specs.{Prelude.{◌≡◌, ◌⊎◌, ◌==◌, ℕ, true, false, List, [], ◌∷◌, ◌++◌, Some, Ok, Err, None, length, IsPermutation}, List.{AllByRecursion}, Str.{is_utf8}}
 use Rattle.std_io.specs.declared.io.kind.ErrorKind.TheVariants as kind
-use Rattle.cacache_core.specs.{declared.errors.Fault.TheVariants.{NotFound}, PathNames.{Names, IsProperName}}
+use Rattle.cacache_core.specs.{declared.errors.Fault.TheVariants.{NotFound}, Paths.{Names, IsProperName}}
 use Rattle.cacache_store.specs.declared.store.step.Step.TheVariants as steps
 use Rattle.cacache_store.specs.declared.store.answer.Name.{Name}
 use Rattle.cacache_store.specs.declared.store.answer.Answer.TheVariants as answers
 use Rattle.cacache_disk.specs.{declared.node.Node.{Node, TheVariants.{Folder}}, Tree.{Tree, look, listing, kind_of}, LedTo.{standing, folder}}
-use Rattle.cacache_system.specs.{declared.call.CallResult.{CallResult, TheVariants.{Failed}}, ListedNames.{text_of, with_slash}, AnswersOf.{Hint, first}}
+use Rattle.cacache_system.specs.{declared.call.CallResult.{CallResult, TheVariants.{Failed}}, Seen.{text_of, with_slash}, AnswersOf.{Hint, first}}
 use Rattle.cacache_system_model.specs.{Machine.{Machine}, Calls.{GoesWell, OccursSomehow}, Laws.{outcome, led_to, Leads, IsLucky, MayBreak}}
 
 -- an entry of a folder: its name is proper and is given as it is, and the entry is under it

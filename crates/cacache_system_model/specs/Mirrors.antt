@@ -1,7 +1,7 @@
 -- Where the bytes of open temporary files are: on a system they are in its tree, in a disk in memory the handles have
 -- them.
 use Rattle.std.specs.Prelude.{◌≡◌, Bool, true, false, if◌then◌else◌, [], Option, None, Some, Result, Ok, Err, IfOk}
-use Rattle.cacache_core.specs.{declared.errors.Fault.{Fault}, PathNames.{Names, names_of}}
+use Rattle.cacache_core.specs.{declared.errors.Fault.{Fault}, Paths.{Names, names_of}}
 use Rattle.cacache_store.specs.{declared.store.{step.Step.TheVariants.{CreateTemp, Persist, Append, ReadAll, Open, Size, Copy, Reflink, HardLink, RemoveFile, SyncFile}, answer.Answer.TheVariants.{Temp, Done}}, Plain.{PlainStep, PlainAnswer}}
 use Rattle.cacache_disk.specs.{declared.{luck.Luck.{Luck}, node.Node.{Node, TheVariants.{Folder, File, Link}}}, Tree.{Tree, look, same_path}, LedTo.{leads, place, writable}, Apply.{apply}}
 

@@ -1,10 +1,10 @@
 -- What each step asks of the machine for its law.
 use Rattle.std.specs.Prelude.{◌≡◌, ◌⊎◌, ◌≤◌, ℕ, List, Ok}
-use Rattle.cacache_core.specs.PathNames.{Names}
+use Rattle.cacache_core.specs.Paths.{Names}
 use Rattle.cacache_store.specs.declared.store.step.Step.TheVariants.{MakeDirs, Write, Persist, Read, Copy, Reflink, HardLink, ReadDir, SyncTemp, SyncDir}
-use Rattle.cacache_disk.specs.{declared.node.Node.{Node}, LedTo.{linked}, Rooted.{Rooted}}
+use Rattle.cacache_disk.specs.{declared.node.Node.{Node}, LedTo.{linked}, Tree.{Rooted}}
 use Rattle.cacache_system.specs.{Seen.{NumberedFile, NumberedTemp, NumberedStep}, AnswersOf.{Hint}}
-use Rattle.cacache_system_model.specs.{Machine.{OpenFile, Machine}, Laws.{GoesPlainly, MayBreak}, OneCall.{StillStands}, Reading.{StaysOpen}, Writing.{HasNoFresh, CanCopy}, Making.{HasNoLink}, Listing.{ListsPlainly, IsAbsent, GivesInOrder}, Moving.{MayReplace}, Syncing.{EndsInNoLink}}
+use Rattle.cacache_system_model.specs.{Machine.{OpenFile, Machine}, Laws.{GoesPlainly, MayBreak}, StepLaws.{StillStands, StaysOpen, HasNoLink, MayReplace, EndsInNoLink}, Writing.{HasNoFresh, CanCopy}, Listing.{ListsPlainly, IsAbsent, GivesInOrder}}
 
 -- a temporary file is still at its path
 abbrev pub IsStill : Machine → NumberedTemp → Type 0

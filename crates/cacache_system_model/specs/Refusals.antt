@@ -4,7 +4,7 @@ use Rattle.std_io.specs.declared.io.kind.ErrorKind.{ErrorKind}
 use Rattle.cacache_store.specs.declared.store.answer.Kind.TheVariants as kinds
 use Rattle.cacache_store.specs.declared.store.step.Step.TheVariants as steps
 use Rattle.cacache_system.specs.declared.call.SystemCall.TheVariants as asks
-use Rattle.cacache_system.specs.{declared.call.{FileInfo.{FileInfo}, SystemCall.{SystemCall}, CallItem.{CallItem}, CallResult.{CallResult, TheVariants.{Done, Opened, Count, Info, Failed}}}, CallLog.{item}, Seen.{NumberedTemp, NumberedStep}, CallsOf.{Runs}, AnswersOf.{Hint, rewrites, first}}
+use Rattle.cacache_system.specs.{declared.call.{FileInfo.{FileInfo}, SystemCall.{SystemCall}, CallItem.{CallItem}, CallResult.{CallResult, TheVariants.{Done, Opened, Count, Info, Failed}}}, Seen.{item, NumberedTemp, NumberedStep}, CallsOf.{Runs}, AnswersOf.{Hint, rewrites, first}}
 
 -- the calls are no run of the step, however it begins and whatever they end with
 abbrev pub IsNoRun : NumberedStep → List CallItem → Type 0
@@ -66,7 +66,7 @@ NoMoveWithoutMode =
     ∷ item (asks.Rename temp.path path) said ∷ rest) end
     → ⊥
 
--- where the owner is refused no other call follows
+-- after the owner is refused no other call follows
 abbrev pub NoCallWithoutOwner : Type 0
 NoCallWithoutOwner =
     (temp : NumberedTemp) (path : List ℕ) (synced : Bool) (info : FileInfo)

@@ -1,11 +1,11 @@
 -- Laws on writes and copies.
 use Rattle.std.specs.Prelude.{◌≡◌, ◌⊎◌, ◌++◌, ◌∷◌, [], ℕ, List, None, take}
-use Rattle.cacache_core.specs.PathNames.{Names}
+use Rattle.cacache_core.specs.Paths.{Names}
 use Rattle.cacache_store.specs.declared.store.step.Step.TheVariants as steps
 use Rattle.cacache_store.specs.declared.store.answer.Answer.TheVariants as answers
 use Rattle.cacache_disk.specs.{declared.luck.Luck.{Luck, TheVariants.{Plain}}, Tree.{look}, Apply.{apply, lengthened}}
 use Rattle.cacache_system.specs.{declared.call.CallResult.{CallResult}, CallsOf.{fresh_name}, Seen.{NumberedTemp}, AnswersOf.{Hint, first, answer_of}}
-use Rattle.cacache_system_model.specs.{Machine.{Machine, EndsInName}, Calls.{GoesWell, OccursSomehow}, Laws.{step_on, outcome, led_to, Leads, GoesPlainly, MayBreak}, OneCall.{StillStands}}
+use Rattle.cacache_system_model.specs.{Machine.{Machine, EndsInName}, Calls.{GoesWell, OccursSomehow}, Laws.{step_on, outcome, led_to, Leads, GoesPlainly, MayBreak}, StepLaws.{StillStands}}
 
 -- a temporary file takes all the bytes: the answer is that of plain luck, and the file alone grew
 abbrev pub WritesAll : Machine → NumberedTemp → Names → List ℕ → CallResult → Machine → Type 0

@@ -1,5 +1,5 @@
 //! Laws, on functions that do nothing.
-ghost use Rattle.cacache_system_model.specs.{CallLaws.{CallsByCall}, Chains.{RunsMirror, StepsOnDisk}, Fixing.{LossesMirror}, Listing.{ReadDirBreaks, ReadDirGoesPlainly, ReadDirInOrder}, Logged.{LogsAgree}, Making.{MakeDirsAgrees}, Moving.{PersistAgrees}, Meeting.{CallsCanGoWell}, Mirrors.{StepsMirror}, OneCall.{CreateAgrees, ExistsAgrees, HardLinkAgrees, ReflinkBreaks, SymlinkAgrees}, Opening.{OpenAgrees, SizeAgrees}, Premises.{EachGoesPlainly, EachMayBreak}, Reading.{PiecesReadPlainly, ReadAllAgrees, ReadBreaks}, Refusals.{NoCallWithoutOwner, NoCopyInPlace, NoFileForFolder, NoMoveWithoutMode, NoOtherMode, NoOtherSync, NoRemovalBeforePut, NoSecondWrite}, Removing.{AppendAgrees, RemoveDirAgrees, RemoveFileAgrees}, Syncing.{SyncDirAgrees, SyncFileAgrees, SyncTempAgrees}, Writing.{CopyAgrees, WriteAgrees}};
+ghost use Rattle.cacache_system_model.specs.{CallLaws.{CallsByCall}, Chains.{RunsMirror, StepsOnDisk}, Fixing.{LossesMirror}, Listing.{ReadDirBreaks, ReadDirGoesPlainly, ReadDirInOrder}, CallForms.{LogsAgree}, StepLaws.{MakeDirsAgrees, PersistAgrees, CreateAgrees, ExistsAgrees, HardLinkAgrees, ReflinkBreaks, SymlinkAgrees, OpenAgrees, SizeAgrees, PiecesReadPlainly, ReadAllAgrees, ReadBreaks, AppendAgrees, RemoveDirAgrees, RemoveFileAgrees, SyncDirAgrees, SyncFileAgrees, SyncTempAgrees}, Laws.{CallsCanGoWell}, Mirrors.{StepsMirror}, Premises.{EachGoesPlainly, EachMayBreak}, Refusals.{NoCallWithoutOwner, NoCopyInPlace, NoFileForFolder, NoMoveWithoutMode, NoOtherMode, NoOtherSync, NoRemovalBeforePut, NoSecondWrite}, Writing.{CopyAgrees, WriteAgrees}};
 
 use cacache_folder::SystemStore;
 use cacache_system::System;
@@ -40,7 +40,7 @@ pub fn read_laws()
 {}
 
 /// An append and a copy do what the disk's table says of them; and a write, except that its file grows in the tree.
-pub fn append_laws()
+pub fn writing_step_laws()
     ensures append { AppendAgrees }
     ensures write { WriteAgrees }
     ensures copy { CopyAgrees }

@@ -14,7 +14,7 @@ pub use bucket::{
 };
 pub use callers::system_history_laws;
 pub use laws::{
-    append_laws, change_laws, covered_laws, list_laws, logged_laws, make_dirs_laws, mirror_laws,
-    question_laws, read_laws, refusal_laws, removal_laws, satisfiable_laws, sync_laws,
-    system_call_laws,
+    change_laws, covered_laws, list_laws, logged_laws, make_dirs_laws, mirror_laws, question_laws,
+    read_laws, refusal_laws, removal_laws, satisfiable_laws, sync_laws, system_call_laws,
+    writing_step_laws,
 };

@@ -2,13 +2,13 @@
 use Rattle.std.proofs.{Common.{◌≡◌, ◌≤◌, ℕ, Bool, true, false, List, [], ◌∷◌, ◌++◌, length, take, Option, Some, None, Result, Ok, Err, nat_le, refl, sym, ◌∙◌, ap, subst, inl, inr, arith, append-nil, append_assoc}, lemmas.Grind.{common_steps}}
 use Rattle.std.specs.{Prelude.{◌⊎◌, bytes_eq, if◌then◌else◌, ⊤}, Io.KnownBytes.{Appends, Keeps}}
 use Rattle.cacache_core.specs.declared.errors.{Error.{Error}, Fault.{Fault}}
-use Rattle.cacache_store.specs.Failures as io
+use Rattle.cacache_store.specs.Outside as io
 use Rattle.cacache_store.specs.declared.store.plain.PlainTemp.{PlainTemp}
 use Rattle.cacache_polled.specs.{declared.kinds.{Work.{Work, TheVariants.{Write, Flush, Remove}}, State.{State, TheVariants.{Idle, Busy, Closed}}, Finished.{Finished}, Desk.{Desk}, Polled.{Polled}, Completion.{Completion}}, Table.{Ask, ask_write, ask_flush, ask_close, write_idle, write_flushing, write_in, flush_idle, flush_in, close_closed, close_in, polled, ended, wrote, outcome, flush_outcome}, Events.{Seen, Event, asks, ends, after_ending, seen, HasSeen}}
-use Rattle.cacache_polled.proofs.Seen.{seen-snoc}
+use Rattle.cacache_polled.proofs.Held.{seen-snoc}
 use Rattle.cacache_polled.specs.declared.kinds.Polled.TheVariants as polls
 use Rattle.cacache_polled.specs.declared.kinds.Completion.TheVariants as done
-use Rattle.cacache_writers.specs.{declared.kept.Kept.{Kept}, Sharing.{IsPolled, handed, taken_out, left_after}, Working.{FitsWork, DoesWork}, Alone.{work_of, HasBytes, Whole, Away, IsGone, NewIsWhole, PollKeeps, TakeBrings, EndRestores, WholeHolds}}
+use Rattle.cacache_writers.specs.{declared.kept.Kept.{Kept}, Sharing.{IsPolled, handed, taken_out, left_after}, Turning.{FitsWork, DoesWork}, Alone.{work_of, HasBytes, Whole, Away, IsGone, NewIsWhole, PollKeeps, TakeBrings, EndRestores, WholeHolds}}
 
 -- ---- the table: which work a poll hands out
 

@@ -1,10 +1,10 @@
 -- The file of a polled writer while one worker alone writes it: it has the bytes that the core holds.
 use Rattle.std.specs.Prelude.{◌≡◌, ◌⊎◌, ◌++◌, ℕ, List, Option, Some, None, Result, ⊤}
 use Rattle.cacache_core.specs.declared.{errors.{Error.{Error}, Fault.{Fault}}, integrity.algorithm.Algorithm.{Algorithm}}
-use Rattle.cacache_store.specs.Failures as io
+use Rattle.cacache_store.specs.Outside as io
 use Rattle.cacache_store.specs.declared.store.plain.PlainTemp.{PlainTemp}
 use Rattle.cacache_polled.specs.{declared.kinds.{Work.{Work}, State.{State, TheVariants.{Idle, Busy, Closed}}, Completion.{Completion}}, Table.{Ask}, Events.{Event, seen, HasHeld, HasSeen}}
-use Rattle.cacache_writers.specs.{declared.kept.Kept.{Kept}, Sharing.{IsNew, IsPolled, IsEnded, taken_out, left_after}, Working.{EndsWork}}
+use Rattle.cacache_writers.specs.{declared.kept.Kept.{Kept}, Sharing.{IsNew, IsPolled, IsEnded, taken_out, left_after}, Turning.{EndsWork}}
 
 -- the work that a core has out
 abbrev pub work_of : State → Option Work

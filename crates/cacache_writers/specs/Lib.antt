@@ -1,9 +1,5 @@
 pub mod Alone
-pub mod Committing
-pub mod Copying
 pub mod Opening
-pub mod Removing
 pub mod Sharing
 pub mod Turning
-pub mod Working
 pub mod Writing

@@ -3,7 +3,7 @@ use Rattle.std.specs.Prelude.{◌≡◌, ◌⊎◌, ℕ, false, List, Option, So
 use Rattle.cacache_core.specs.{declared.{errors.Error.{Error, TheVariants.{OutOfMemory}}, integrity.algorithm.Algorithm.{Algorithm}}, Hashers.{algorithm_of}}
 use Rattle.cacache_polled.specs.{declared.kinds.{Work.{Work}, Polled.{Polled}, Completion.{Completion, TheVariants.{Gone}}}, Table.{Ask, polled}, Events.{Event, asks, ends, HasSeen}}
 use Rattle.cacache_polled.specs.declared.kinds.Polled.TheVariants as polls
-use Rattle.cacache_async.specs.Waiting.{TellsFault}
+use Rattle.cacache_async.specs.Futures.{TellsFault}
 use Rattle.cacache_writers.specs.declared.kept.Kept.{Kept}
 
 -- what a poll answers, by the table's answer

@@ -1,6 +1,6 @@
 //! What the caller says about a content that is written by polls.
 ghost use Rattle.std.specs.Prelude.{◌≡◌, IfOk};
-ghost use Rattle.cacache_writers.specs.{Committing.{commit_about}, Opening.{IsAbout}};
+ghost use Rattle.cacache_writers.specs.Opening.{commit_about, IsAbout};
 
 use cacache_calls::{Commit, Options};
 use cacache_core::integrity::Integrity;

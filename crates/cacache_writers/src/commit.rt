@@ -2,8 +2,8 @@
 ghost use Rattle.std.specs.Prelude.{◌≡◌, ℕ, List, None, IfSome};
 ghost use Rattle.cacache_calls.specs.{declared.reply.Reply.TheVariants.{Stored}, Runs.{reply_of}};
 ghost use Rattle.cacache_polled.specs.{Table.{closed}, Events.{HasHeld, busy}};
-ghost use Rattle.cacache_async.specs.Waiting.{TellsFault};
-ghost use Rattle.cacache_writers.specs.Committing.{EndsAsSaid, EndsHeld, Gives, GivesSome};
+ghost use Rattle.cacache_async.specs.Futures.{TellsFault};
+ghost use Rattle.cacache_writers.specs.Opening.{EndsAsSaid, EndsHeld, Gives, GivesSome};
 
 use crate::about::About;
 use cacache_core::errors::{Error, Fault, Result};

@@ -2,8 +2,8 @@
 ghost use Rattle.std.specs.{Prelude.{◌≡◌, ⊤, List, Result, Some, None, IfNone, IfSome}, Arc.{arc_value}};
 ghost use Rattle.futures.specs.{Poll.{IfReady, OnPending}, Task.{Covers, Keeps}};
 ghost use Rattle.cacache_core.specs.declared.{errors.Error.{Error}, integrity.digest.Hash.{Hash}};
-ghost use Rattle.cacache_async.specs.Waiting.{SaysOver};
-ghost use Rattle.cacache_writers.specs.Committing.{GivesLocked};
+ghost use Rattle.cacache_async.specs.Futures.{SaysOver};
+ghost use Rattle.cacache_writers.specs.Opening.{GivesLocked};
 
 use crate::about::About;
 use crate::commit::commit_held;

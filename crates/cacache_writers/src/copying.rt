@@ -1,9 +1,9 @@
 //! Readers that are copied by polls.
 ghost use Rattle.std.specs.Prelude.{◌≡◌, ◌<◌, ◌≤◌, ◌↔◌, ◌++◌, [], ⊤, ℕ, List, Result, IfOk, IsTrue, drop, length, take};
 ghost use Rattle.futures.specs.{Poll.{IfReady, OnPending}, Task.{Covers, IsArmed, Keeps}};
-ghost use Rattle.cacache_core.specs.{declared.errors.Error.{Error}, Contexts.{fault_of}};
-ghost use Rattle.cacache_async.specs.Waiting.{TellsFault};
-ghost use Rattle.cacache_writers.specs.{Copying.{CopiesOn, Fills, GoesOn, IsFilling, IsFresh, ReadsBehind, ReadsNext, WritesNext, held_of, piece_of}, Writing.{WritesOn}};
+ghost use Rattle.cacache_core.specs.{declared.errors.Error.{Error}, Errors.{fault_of}};
+ghost use Rattle.cacache_async.specs.Futures.{TellsFault};
+ghost use Rattle.cacache_writers.specs.Writing.{CopiesOn, Fills, GoesOn, IsFilling, IsFresh, ReadsBehind, ReadsNext, WritesNext, held_of, piece_of, WritesOn};
 
 use crate::writing::{PIECE, PollWrite, write_on};
 use cacache_core::errors::{Error, Fault, Result};

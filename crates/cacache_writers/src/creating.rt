@@ -1,6 +1,6 @@
 //! Futures that open polled writers.
 ghost use Rattle.std.specs.Prelude.{◌≡◌, None, Some, IfOk, option_map};
-ghost use Rattle.cacache_async.specs.Waiting.{Waits};
+ghost use Rattle.cacache_async.specs.Futures.{Waits};
 ghost use Rattle.cacache_writers.specs.Opening.{OpensWriter};
 
 use crate::opening::open_writer;

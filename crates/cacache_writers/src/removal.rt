@@ -1,7 +1,7 @@
 //! Temporary files that are removed without a store.
 ghost use Rattle.std.specs.Prelude.{◌≡◌, Result, Ok, ⊤};
 ghost use Rattle.cacache_core.specs.declared.errors.Fault.{Fault};
-ghost use Rattle.cacache_writers.specs.Removing.{TellsRemoval};
+ghost use Rattle.cacache_writers.specs.Opening.{TellsRemoval};
 
 use cacache_core::errors::Fault;
 use cacache_core::keeping::let_go;
@@ -9,6 +9,7 @@ use cacache_folder::FolderTemp;
 use cacache_store::store::{PlainTemp, TempFile};
 use std::io;
 use std::os::fd::AsRawFd;
+use std::random::RandomSource;
 use std::rt::Files;
 
 /// A temporary file that removes itself, since a worker has no store that could. One that asks the system for it keeps
@@ -32,7 +33,7 @@ fn told(answer: io::Result<()>) -> Result<(), Fault>
     }
 }
 
-impl<R: Files + Drop> RemovableTemp for FolderTemp<R>
+impl<R: Files + RandomSource + Drop> RemovableTemp for FolderTemp<R>
 where
     R::File: AsRawFd,
 {

@@ -1,7 +1,7 @@
 //! Work that is done with a temporary file.
 ghost use Rattle.std.specs.Prelude.{◌≡◌, length};
 ghost use Rattle.cacache_polled.specs.declared.kinds.Work.TheVariants.{Write};
-ghost use Rattle.cacache_writers.specs.Working.{Appended, Answered, DoesWork, EndsWork, FitsWork, WorksBy};
+ghost use Rattle.cacache_writers.specs.Turning.{Appended, Answered, DoesWork, EndsWork, FitsWork, WorksBy};
 
 use crate::kept::Told;
 use crate::removal::RemovableTemp;

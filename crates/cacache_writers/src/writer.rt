@@ -2,9 +2,9 @@
 ghost use Rattle.std.specs.{Prelude.{◌≡◌, None, Some, IfOk, IfErr}, Arc.{arc_value}};
 ghost use Rattle.futures.specs.{Poll.{OnPending}, Task.{IsArmed, Keeps}};
 ghost use Rattle.cacache_core.specs.declared.errors.Error.TheVariants.{OutOfMemory};
-ghost use Rattle.cacache_sync.specs.put.Options.{nothing_said, saying};
-ghost use Rattle.cacache_async.specs.Waiting.{Waits};
-ghost use Rattle.cacache_writers.specs.{Copying.{IsFresh}, Turning.{IsWorkerOf}};
+ghost use Rattle.cacache_sync.specs.put.KeyedWriters.{nothing_said, saying};
+ghost use Rattle.cacache_async.specs.Futures.{Waits};
+ghost use Rattle.cacache_writers.specs.{Writing.{IsFresh}, Turning.{IsWorkerOf}};
 
 use crate::about::About;
 use crate::committing::{AsyncWriterCloseFuture, WriterCommitFuture};

@@ -2,7 +2,7 @@
 ghost use Rattle.std.specs.Prelude.{◌≡◌, ◌<◌, ℕ, List, Result, ⊤, IfOk, IfErr, drop, min};
 ghost use Rattle.futures.specs.{declared.task.Poll.{Poll}, Poll.{IfReady, OnPending}, Task.{Covers, IsArmed, Keeps}};
 ghost use Rattle.cacache_core.specs.declared.errors.{Error.{Error}, Fault.TheVariants.{WriteZero}};
-ghost use Rattle.cacache_async.specs.Waiting.{TellsFault};
+ghost use Rattle.cacache_async.specs.Futures.{TellsFault};
 ghost use Rattle.cacache_writers.specs.Writing.{WritesOn, piece_len as len_of, next_piece as piece_of};
 
 use cacache_async::polling;

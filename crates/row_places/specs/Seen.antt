@@ -1,6 +1,6 @@
 -- What is seen of the files of a store with files that fail.
 use Rattle.std.specs.Prelude.{None}
-use Rattle.cacache_store.specs.{declared.store.{answer.Answer.{Answer}, plain.{PlainFile.{PlainFile}, PlainTemp.{PlainTemp}}, step.Step.{Step}}, Fits.{Fits}, Plain.{plain_answer, plain_step}}
+use Rattle.cacache_store.specs.{declared.store.{answer.Answer.{Answer}, plain.{PlainFile.{PlainFile}, PlainTemp.{PlainTemp}}, step.Step.{Step}}, Plain.{Fits, plain_answer, plain_step}}
 use Rattle.row_places.specs.declared.faulty.{Failing.{Failing}, Short.{Short}}
 
 -- an open file: the one that it stands for

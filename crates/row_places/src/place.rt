@@ -6,6 +6,7 @@ use cacache_store::env::{Clock, Env, Names};
 use cacache_store::store::Store;
 use std::alloc::{AllocError, AllocGlobal, Global};
 use std::os::fd::AsRawFd;
+use std::random::RandomSource;
 use std::rt::Files;
 use std::{fs, io};
 
@@ -63,7 +64,7 @@ pub fn in_memory(alloc: Global) -> Result<On<MemStore>, AllocError> {
 /// An environment on real folders, those below the one that the program runs in.
 pub fn in_folders<R>(rt: &R) -> io::Result<On<FolderStore<R>>>
 where
-    R: Files + AllocGlobal + Clone + Drop,
+    R: Files + RandomSource + AllocGlobal + Clone + Drop,
     R::File: AsRawFd,
 {
     let here = fs::canonicalize(rt, ".")?;

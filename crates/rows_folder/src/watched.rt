@@ -8,6 +8,7 @@ use std::fs::{Metadata, OpenOptions};
 use std::io;
 use std::io::ErrorKind;
 use std::path::PathBuf;
+use std::random::RandomSource;
 use std::rc::Rc;
 use std::rt::Files;
 
@@ -84,6 +85,13 @@ impl Alloc for Watched {
 
     fn alloc(&self) -> Global {
         self.host.alloc()
+    }
+}
+
+impl RandomSource for Watched {
+    fn fill_bytes(&self, buf: &mut [u8]) -> io::Result<()> {
+        self.asked("random", &[])?;
+        self.host.fill_bytes(buf)
     }
 }
 

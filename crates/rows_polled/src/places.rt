@@ -24,7 +24,7 @@ pub(crate) struct Places<R, S> {
     folders: On<S>,
 }
 
-impl<R: Files + AllocGlobal + Clone + Drop> Places<R, FolderStore<R>>
+impl<R: Files + RandomSource + AllocGlobal + Clone + Drop> Places<R, FolderStore<R>>
 where
     R::File: AsRawFd,
 {

@@ -3,8 +3,8 @@ ghost use Rattle.std.specs.{Prelude.{◌≡◌, take, length}, Io.{ReadsAtMost, 
 ghost use Rattle.std_io.specs.IoError.{error_kind};
 ghost use Rattle.cacache_system.specs.declared.call.SystemCall.TheVariants as asks;
 ghost use Rattle.cacache_system.specs.declared.call.CallResult.TheVariants as says;
-ghost use Rattle.cacache_system.specs.{CallLog.{said}, CallsOf.{interrupts}};
-ghost use Rattle.cacache_folder.specs.Interruptions.{Insists};
+ghost use Rattle.cacache_system.specs.{Seen.{said}, CallsOf.{interrupts}};
+ghost use Rattle.cacache_folder.specs.Goings.{Insists};
 
 use cacache_system::System;
 use std::io;

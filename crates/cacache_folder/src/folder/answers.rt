@@ -1,8 +1,8 @@
 //! Answers to the steps that make, take or give a file.
 ghost use Rattle.cacache_store.specs.Plain.{plain_answer};
 ghost use Rattle.cacache_system.specs.declared.call.CallResult.TheVariants as says;
-ghost use Rattle.cacache_system.specs.CallLog.{said};
-ghost use Rattle.cacache_folder.specs.{FolderHandles.{seen_file, seen_temp}, Reasons.{Explains}, StepClauses.{AnswerFits, AnswersWhole, AnswersEnd}};
+ghost use Rattle.cacache_system.specs.Seen.{said};
+ghost use Rattle.cacache_folder.specs.{FolderHandles.{seen_file, seen_temp}, StepClauses.{Explains, AnswerFits, AnswersWhole, AnswersEnd}};
 
 use crate::folder::faults::failed_answer;
 use crate::folder::opened::SystemFile;

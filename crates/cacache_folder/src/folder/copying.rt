@@ -2,11 +2,10 @@
 ghost use Rattle.std.specs.{Prelude.{◌≡◌, ◌||◌}, Bool.{nat_eq}, Cmp.Lexicographic.{pointwise}};
 ghost use Rattle.cacache_system.specs.declared.call.SystemCall.TheVariants as asks;
 ghost use Rattle.cacache_system.specs.declared.call.CallResult.TheVariants as says;
-ghost use Rattle.cacache_system.specs.{CallLog.{said}, CallsOf.{RunLogged, is_same_node}};
+ghost use Rattle.cacache_system.specs.{Seen.{said}, CallsOf.{RunLogged, is_same_node}};
 ghost use Rattle.cacache_system.specs.CallsOf as calls;
 
 use crate::folder::fresh::{count_of, replace};
-use crate::folder::node::Node;
 use crate::folder::paths::is_absent;
 use crate::folder::refusing::unless_folder;
 use cacache_core::keeping::let_go;
@@ -15,11 +14,11 @@ use cacache_system::{FileInfo, System};
 use std::io;
 use std::io::ErrorKind;
 
-/// Whether both are of one file or folder.
+/// Whether both are of one file or folder. A system may number none.
 fn is_same(one: &FileInfo, other: &FileInfo) -> bool
     ensures { result ≡ is_same_node one.now other.now }
 {
-    Node::of(one).is_same(Node::of(other))
+    one.inode != 0 && one.inode == other.inode && one.device == other.device
 }
 
 /// Whether a file would be copied onto itself.
@@ -41,10 +40,7 @@ fn write_into<Y: System>(system: &mut Y, from: &str, to: &str) -> io::Result<usi
     ensures { RunLogged (calls.only (asks.CopyFile from.now to.now)) (said says.Count result)
         (Y.calls system.old) (Y.calls system.new) }
 {
-    match system.copy_file(from, to) {
-        Ok(count) => Ok(count_of(count)),
-        Err(error) => Err(error),
-    }
+    Ok(count_of(system.copy_file(from, to)?))
 }
 
 /// Copies the file over what the link at the second path leads to.
@@ -81,13 +77,14 @@ fn make_end<Y: System + AllocGlobal>(
 /// folder is refused, the file itself stays, and what is neither file nor folder is written into.
 fn copy_over<Y: System + AllocGlobal>(
     system: &mut Y,
+    number: u64,
     is_through: bool,
     source: &FileInfo,
     target: &FileInfo,
     from: &str,
     to: &str,
 ) -> io::Result<usize>
-    ensures { RunLogged (calls.copied is_through source.now target.now from.now to.now)
+    ensures { RunLogged (calls.copied number is_through source.now target.now from.now to.now)
         (said says.Count result) (Y.calls system.old) (Y.calls system.new) }
 {
     if let Some(why) = unless_folder(target.kind) {
@@ -97,26 +94,27 @@ fn copy_over<Y: System + AllocGlobal>(
     } else if !target.regular {
         write_into(system, from, to)
     } else if is_through {
-        replace_end(system, source.inode, from, to)
+        replace_end(system, number, from, to)
     } else {
-        replace(system, source.inode, from, to)
+        replace(system, number, from, to)
     }
 }
 
 /// Copies the file about which the system said this over what the link at the second path leads to.
 fn copy_through<Y: System + AllocGlobal>(
     system: &mut Y,
+    number: u64,
     source: &FileInfo,
     from: &str,
     to: &str,
 ) -> io::Result<usize>
-    ensures { RunLogged (calls.asking_end source.now from.now to.now) (said says.Count result)
-        (Y.calls system.old) (Y.calls system.new) }
+    ensures { RunLogged (calls.asking_end number source.now from.now to.now)
+        (said says.Count result) (Y.calls system.old) (Y.calls system.new) }
 {
     match system.stat(to) {
-        Ok(target) => copy_over(system, true, source, &target, from, to),
+        Ok(target) => copy_over(system, number, true, source, &target, from, to),
         Err(error) => if is_absent(error.kind()) {
-            make_end(system, source.inode, from, to)
+            make_end(system, number, from, to)
         } else {
             Err(error)
         },
@@ -126,21 +124,22 @@ fn copy_through<Y: System + AllocGlobal>(
 /// Copies the file about which the system said this.
 fn copy_found<Y: System + AllocGlobal>(
     system: &mut Y,
+    number: u64,
     source: &FileInfo,
     from: &str,
     to: &str,
 ) -> io::Result<usize>
-    ensures { RunLogged (calls.asking_target source.now from.now to.now) (said says.Count result)
-        (Y.calls system.old) (Y.calls system.new) }
+    ensures { RunLogged (calls.asking_target number source.now from.now to.now)
+        (said says.Count result) (Y.calls system.old) (Y.calls system.new) }
 {
     match system.stat_link(to) {
         Ok(target) => if is_link(target.kind) {
-            copy_through(system, source, from, to)
+            copy_through(system, number, source, from, to)
         } else {
-            copy_over(system, false, source, &target, from, to)
+            copy_over(system, number, false, source, &target, from, to)
         },
         Err(error) => if is_absent(error.kind()) {
-            replace(system, source.inode, from, to)
+            replace(system, number, from, to)
         } else {
             Err(error)
         },
@@ -151,15 +150,16 @@ fn copy_found<Y: System + AllocGlobal>(
 /// other path sees the copy. A file that is copied onto itself stays as it is.
 pub(crate) fn copy<Y: System + AllocGlobal>(
     system: &mut Y,
+    number: u64,
     from: &str,
     to: &str,
 ) -> io::Result<usize>
-    ensures { RunLogged (calls.asking_source from.now to.now) (said says.Count result)
+    ensures { RunLogged (calls.asking_source number from.now to.now) (said says.Count result)
         (Y.calls system.old) (Y.calls system.new) }
 {
     match system.stat(from) {
         Ok(source) => if source.regular {
-            copy_found(system, &source, from, to)
+            copy_found(system, number, &source, from, to)
         } else {
             Err(io::Error::from(ErrorKind::InvalidInput))
         },

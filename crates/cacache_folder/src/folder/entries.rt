@@ -1,9 +1,9 @@
 //! What is under the names of a folder.
 ghost use Rattle.std.specs.{Prelude.{◌≡◌, ◌==◌, ◌++◌, ◌∷◌, [], ◌↔◌, true, IfOk, IfErr, OnOk, IsTrue}, List.{list_any}};
 ghost use Rattle.std_io.specs.declared.io.kind.ErrorKind.TheVariants as kinds_of_error;
-ghost use Rattle.cacache_core.specs.PathNames.{ends_name, IsProperName};
-ghost use Rattle.cacache_store.specs.Fits.{AreProperNames};
-ghost use Rattle.cacache_system.specs.ListedNames as told;
+ghost use Rattle.cacache_core.specs.Paths.{ends_name, IsProperName};
+ghost use Rattle.cacache_store.specs.Plain.{AreProperNames};
+ghost use Rattle.cacache_system.specs.Seen as told;
 ghost use Rattle.cacache_folder.specs.Listings.{NamesEntry, EntersName, AsksKind, AsksKindIfText, FindsKind, ListsName};
 
 use crate::folder::escaped::text_of_name;

@@ -4,8 +4,8 @@
 //! hex. So is one that begins with the mark itself, which no name of up to 255 bytes does.
 ghost use Rattle.std.specs.Prelude.{◌≡◌, ◌++◌, IfOk};
 ghost use Rattle.hex.specs.Hex.{encode_lower};
-ghost use Rattle.cacache_system.specs.ListedNames.{mark, text_of};
-ghost use Rattle.cacache_folder.specs.Escaped.{raw_name};
+ghost use Rattle.cacache_system.specs.Seen.{mark, text_of};
+ghost use Rattle.cacache_folder.specs.Listings.{raw_name};
 
 use cacache_core::text::Text;
 use std::alloc::{AllocError, Global};

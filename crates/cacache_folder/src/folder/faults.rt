@@ -1,7 +1,7 @@
 //! Answers to steps that the system refused.
 ghost use Rattle.std.specs.Prelude.{◌≡◌};
-ghost use Rattle.cacache_store.specs.{Plain.{plain_step, plain_answer}, Fits.{Fits}};
-ghost use Rattle.cacache_folder.specs.{PartialSteps.{may_do_a_part as does_a_part, HandsBackWhole}, Reasons.{Explains, LeavesReason}, FolderHandles.{seen_file, seen_temp}, FolderNumbers.{numbered, answered}};
+ghost use Rattle.cacache_store.specs.Plain.{plain_step, plain_answer, Fits};
+ghost use Rattle.cacache_folder.specs.{StepClauses.{may_do_a_part as does_a_part, HandsBackWhole, Explains, LeavesReason}, FolderHandles.{seen_file, seen_temp}, FolderNumbers.{numbered, answered}};
 ghost use Rattle.std_io.specs.IoError.{error_kind};
 ghost use Rattle.cacache_system.specs.AnswersOf.{leaves_a_part, failed_with, refuses_memory as is_no_memory};
 

@@ -2,7 +2,7 @@
 ghost use Rattle.std.specs.Prelude.{◌≡◌, ◌≤◌, IfOk, length};
 ghost use Rattle.cacache_system.specs.declared.call.SystemCall.TheVariants as asks;
 ghost use Rattle.cacache_system.specs.declared.call.CallResult.TheVariants as says;
-ghost use Rattle.cacache_system.specs.{CallLog.{said}, CallsOf.{RunLogged}, AnswersOf.{misses as is_missing}};
+ghost use Rattle.cacache_system.specs.{Seen.{said}, CallsOf.{RunLogged}, AnswersOf.{misses as is_missing}};
 ghost use Rattle.cacache_system.specs.CallsOf as calls;
 ghost use Rattle.cacache_store.specs.declared.store.step.Step.TheVariants as steps;
 ghost use Rattle.cacache_store.specs.declared.store.answer.Answer.TheVariants as answers;

@@ -1,7 +1,7 @@
 //! Fresh files, which take the place of others once they are filled.
 ghost use Rattle.std.specs.Prelude.{◌≡◌, ◌++◌, ℕ, List, IfOk, OnOk, string_bytes};
 ghost use Rattle.cacache_system.specs.declared.call.SystemCall.TheVariants as asks;
-ghost use Rattle.cacache_system.specs.{declared.call.CallResult.{CallResult}, CallLog.{said, MakesCall}, CallsOf.{RunLogged}};
+ghost use Rattle.cacache_system.specs.{declared.call.CallResult.{CallResult}, Seen.{said, MakesCall}, CallsOf.{RunLogged}};
 ghost use Rattle.cacache_system.specs.declared.call.CallResult.TheVariants as says;
 ghost use Rattle.cacache_system.specs.CallsOf as calls;
 ghost use Rattle.cacache_folder.specs.Goings.{GoesOrEnds};

@@ -1,9 +1,9 @@
 //! What is in a folder.
 ghost use Rattle.std.specs.{Prelude.{◌≡◌, ◌<◌, ◌==◌, ◌++◌, ◌∷◌, ◌^◌, ◌-◌, ℕ, List, [], true, false, IfOk, OnOk, length}, List.{position}};
-ghost use Rattle.cacache_store.specs.Fits.{AreProperNames};
+ghost use Rattle.cacache_store.specs.Plain.{AreProperNames};
 ghost use Rattle.cacache_store.specs.declared.store.step.Step.TheVariants as steps;
 ghost use Rattle.cacache_store.specs.declared.store.answer.Answer.TheVariants as answers;
-ghost use Rattle.cacache_system.specs.ListedNames.{with_slash};
+ghost use Rattle.cacache_system.specs.Seen.{with_slash};
 ghost use Rattle.cacache_system.specs.CallsOf as calls;
 ghost use Rattle.cacache_system.specs.AnswersOf as table;
 ghost use Rattle.cacache_folder.specs.{StepClauses.{ValueRuns}, Listings.{ListsNames, CutsName, ReadsNames, ReadsAllNames, OpensFolder, OpensPath, ListsFolder}};

@@ -1,9 +1,9 @@
 //! Open files of real folders.
 ghost use Rattle.std.specs.{Prelude.{◌≡◌, ◌==◌, ◌-◌, ◌^◌, ◌<◌, ◌≤◌, ◌&&◌, not, None, IfOk, IsErr, length}, Io.{ReadsAtMost, KnownBytes.{ReadConsumes}}};
-ghost use Rattle.cacache_store.specs.Handles.{LeftFalls};
+ghost use Rattle.cacache_store.specs.Plain.{LeftFalls};
 ghost use Rattle.cacache_system.specs.declared.call.SystemCall.TheVariants as asks;
-ghost use Rattle.cacache_system.specs.{CallLog.{said_bytes}, CallsOf.{RunLogged}};
-ghost use Rattle.cacache_folder.specs.{FolderNumbers.{numbered_file}, HandleRuns.{reading}, Interruptions.{Insists}};
+ghost use Rattle.cacache_system.specs.{Seen.{said_bytes}, CallsOf.{RunLogged}};
+ghost use Rattle.cacache_folder.specs.{FolderNumbers.{numbered_file}, HandleRuns.{reading}, Goings.{Insists}};
 
 use crate::folder::again::ask_to_read;
 use cacache_store::store::{FileHandle, OpenedFile};

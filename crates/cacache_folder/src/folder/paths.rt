@@ -2,7 +2,7 @@
 ghost use Rattle.std.specs.Prelude.{◌≡◌, ◌<◌, ℕ, Bool, List, false, IfErr, IfSome, option_map, length};
 ghost use Rattle.std_io.specs.IoError.{error_kind};
 ghost use Rattle.cacache_system.specs.declared.call.CallResult.TheVariants as says;
-ghost use Rattle.cacache_system.specs.{CallLog.{said}, CallsOf.{Stage, RunLogged, CallsLogged, above_of, below, is_absent as absent_of}};
+ghost use Rattle.cacache_system.specs.{Seen.{said}, CallsOf.{Stage, RunLogged, CallsLogged, above_of, below, is_absent as absent_of}};
 ghost use Rattle.cacache_system.specs.CallsOf as calls;
 ghost use Rattle.cacache_folder.specs.Goings.{onward, made, make_first, Confirms};
 

@@ -2,11 +2,11 @@
 ghost use Rattle.std.specs.Prelude.{◌≡◌, false, None, IfOk};
 ghost use Rattle.cacache_store.specs.declared.store.step.Step.TheVariants as steps;
 ghost use Rattle.cacache_store.specs.declared.store.answer.Answer.TheVariants as answers;
-ghost use Rattle.cacache_store.specs.{Plain.{plain_step, plain_answer}, Fits.{Fits, is_no_memory}};
+ghost use Rattle.cacache_store.specs.Plain.{plain_step, plain_answer, Fits, is_no_memory};
 ghost use Rattle.cacache_system.specs.declared.call.CallResult.TheVariants as says;
-ghost use Rattle.cacache_system.specs.{CallLog.{said}, CallsOf.{RunLogged}, AnswersOf.{StepRuns}};
+ghost use Rattle.cacache_system.specs.{Seen.{said}, CallsOf.{RunLogged}, AnswersOf.{StepRuns}};
 ghost use Rattle.cacache_system.specs.CallsOf as calls;
-ghost use Rattle.cacache_folder.specs.{FolderHandles.{seen_file, seen_temp}, FolderNumbers.{numbered, answered}, PartialSteps.{HandsBackWhole}, Reasons.{Explains}, StepClauses.{ValueRuns, AnswerFits, AnswersWhole, AnswersRun, RunsByPath}};
+ghost use Rattle.cacache_folder.specs.{FolderHandles.{seen_file, seen_temp}, FolderNumbers.{numbered, answered}, StepClauses.{HandsBackWhole, Explains, ValueRuns, AnswerFits, AnswersWhole, AnswersRun, RunsByPath}};
 
 use crate::folder::again::ask_to_write;
 use crate::folder::answers::{created, moved, readable, synced};
@@ -100,7 +100,10 @@ impl<Y: System + AllocGlobal + Clone + Drop> Runner<Y> {
             Step::Symlink(target, path) => done(
                 self.system.symlink(target.as_str(), path.as_str()),
             ),
-            Step::Copy(from, to) => took(copy(&mut self.system, from.as_str(), to.as_str())),
+            Step::Copy(from, to) => {
+                let number = self.system.random().unwrap_or(0);
+                took(copy(&mut self.system, number, from.as_str(), to.as_str()))
+            }
             Step::HardLink(from, to) => done(self.system.hard_link(from.as_str(), to.as_str())),
             Step::ReadDir(path) => listed(self.read_dir(path.as_str())),
             Step::RemoveFile(path) => done(self.system.remove_file(path.as_str())),

@@ -1,6 +1,6 @@
 //! Syncs of real files and folders: the system is asked to put what they hold on its device.
 ghost use Rattle.cacache_system.specs.declared.call.CallResult.TheVariants as says;
-ghost use Rattle.cacache_system.specs.{CallLog.{said}, CallsOf.{RunLogged}};
+ghost use Rattle.cacache_system.specs.{Seen.{said}, CallsOf.{RunLogged}};
 ghost use Rattle.cacache_system.specs.CallsOf as calls;
 
 use crate::folder::files::opened;

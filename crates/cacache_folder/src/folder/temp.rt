@@ -1,7 +1,7 @@
 //! Temporary files of real folders.
 ghost use Rattle.std.specs.{Prelude.{◌≡◌, None, IsOk}, Io.{WritesAtMost, KnownBytes.{WriteAppends}}};
 ghost use Rattle.cacache_system.specs.declared.call.SystemCall.TheVariants as asks;
-ghost use Rattle.cacache_system.specs.{declared.call.CallResult.{CallResult}, CallLog.{MakesCall, said}, CallsOf.{RunLogged}};
+ghost use Rattle.cacache_system.specs.{declared.call.CallResult.{CallResult}, Seen.{MakesCall, said}, CallsOf.{RunLogged}};
 ghost use Rattle.cacache_system.specs.declared.call.CallResult.TheVariants as says;
 ghost use Rattle.cacache_folder.specs.{FolderNumbers.{numbered_temp}, HandleRuns.{writing}};
 

@@ -2,10 +2,10 @@
 ghost use Rattle.std.specs.{Prelude.{◌≡◌, ◌+◌, ◌≤◌, false, IfOk, OnErr, length, min}, Arc.{arc_value}};
 ghost use Rattle.cacache_system.specs.declared.call.SystemCall.TheVariants as asks;
 ghost use Rattle.cacache_system.specs.declared.call.CallResult.TheVariants as says;
-ghost use Rattle.cacache_system.specs.{CallLog.{said, said_bytes}, CallsOf.{RunLogged}};
+ghost use Rattle.cacache_system.specs.{Seen.{said, said_bytes}, CallsOf.{RunLogged}};
 ghost use Rattle.cacache_system.specs.CallsOf as calls;
 ghost use Rattle.cacache_system.specs.AnswersOf as table;
-ghost use Rattle.cacache_folder.specs.{FolderNumbers.{numbered_file}, Goings.{piece}, Interruptions.{Insists}};
+ghost use Rattle.cacache_folder.specs.{FolderNumbers.{numbered_file}, Goings.{piece, Insists}};
 
 use crate::folder::again::ask_to_read;
 use crate::folder::fresh::count_of;

@@ -2,7 +2,7 @@
 use Rattle.std.{proofs.Common.{◌≡◌, ◌==◌, Bool, true, false, if◌then◌else◌, List, ℕ, length, refl, sym, ap, subst, ◌∙◌}, specs.Prelude.{Option, None, Some, Result, Ok, Err}}
 use Rattle.std_io.specs.declared.io.kind.ErrorKind.{ErrorKind}
 use Rattle.std_io.specs.declared.io.kind.ErrorKind.TheVariants as kind
-use Rattle.cacache_core.specs.{Contexts.{fault_of}, declared.errors.Fault.{Fault, TheVariants.{NotFound}}, PathNames.{Names}}
+use Rattle.cacache_core.specs.{Errors.{fault_of}, declared.errors.Fault.{Fault, TheVariants.{NotFound}}, Paths.{Names}}
 use Rattle.cacache_store.specs.declared.store.answer.Answer.TheVariants as answers
 use Rattle.cacache_store.specs.declared.store.step.Step.TheVariants as steps
 use Rattle.cacache_store.specs.Plain.{PlainAnswer}
@@ -11,7 +11,7 @@ use Rattle.cacache_system.specs.declared.call.SystemCall.TheVariants as asks
 use Rattle.cacache_system.specs.{declared.call.CallResult.{CallResult}, CallsOf.{over, taking_memory, following, is_no_folder, opening_folder, after}, AnswersOf.{Hint}}
 use Rattle.cacache_system.specs.declared.call.CallResult.TheVariants as says
 use Rattle.cacache_system_model.specs.{Machine.{Machine, IsRefused}, Folders.{OpensFolder}, Calls.{GoesWell}, Laws.{outcome, Leads, IsPlain, GoesPlainly, MayBreak}, Listing.{IsAbsent}}
-use Rattle.cacache_system_model.proofs.{Leading.{Claim, over_leads, call_leads}, Refused.{refused_agrees, plainly_refused}, Claims.{taking_leads}}
+use Rattle.cacache_system_model.proofs.{Leading.{Claim, over_leads, call_leads}, Refusing.{refused_agrees, plainly_refused}, Claims.{taking_leads}}
 
 no_folder : (here : Option Node) (names : Names) → where_there here names ≡ Err NotFound → where_folder here names ≡ Err NotFound
 no_folder None names e = refl

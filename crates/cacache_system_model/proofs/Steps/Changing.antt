@@ -3,7 +3,7 @@ use Rattle.std.proofs.Common.{◌≡◌, ◌⊎◌, ◌&&◌, ℕ, Bool, true, f
 use Rattle.std.specs.Prelude.{if◌then◌else◌, Option, None, Some, Result, Ok, Err, MatchResult, option_map}
 use Rattle.std_io.specs.declared.io.kind.ErrorKind.{ErrorKind}
 use Rattle.std_io.specs.declared.io.kind.ErrorKind.TheVariants as kind
-use Rattle.cacache_core.specs.{Contexts.{fault_of}, declared.errors.Fault.{Fault}, PathNames.{Names, names_of}}
+use Rattle.cacache_core.specs.{Errors.{fault_of}, declared.errors.Fault.{Fault}, Paths.{Names, names_of}}
 use Rattle.cacache_store.specs.declared.store.step.Step.TheVariants as steps
 use Rattle.cacache_store.specs.declared.store.answer.Answer.TheVariants as answers
 use Rattle.cacache_store.specs.Plain.{PlainAnswer}
@@ -11,8 +11,8 @@ use Rattle.cacache_disk.specs.{declared.{luck.Luck.TheVariants.{Plain}, node.Nod
 use Rattle.cacache_system.specs.declared.call.SystemCall.TheVariants as asks
 use Rattle.cacache_system.specs.{declared.call.CallResult.{CallResult}, CallsOf.{already_exists}, Seen.{NumberedTemp, NumberedStep}, AnswersOf.{Hint, answer_of, failed_with, refuses_memory, misses}}
 use Rattle.cacache_system.specs.declared.call.CallResult.TheVariants as says
-use Rattle.cacache_system_model.specs.{Machine.{Place, under, OpenFile, node_of, Machine, IsRefused, moved, ChangesPlaces, ChangesTree, OpensIf, ShowsEnd, LinksNode, MovesNode, unread}, Calls.{GoesWell, OccursSomehow, part_opened, LeavesCreated}, Laws.{answer_on, LeavesFresh, step_on, outcome, led_to, IsDone, IsLucky, Agrees}, OneCall.{StillStands, CreateAgrees, ExistsAgrees, SymlinkAgrees, HardLinkAgrees, ReflinkBreaks}}
-use Rattle.cacache_system_model.proofs.{Refused.{same_outcome, refused_agrees, plainly_refused, broken_agrees}, Steps.{OneCalls.{one_agrees}, Writing.{look_same}, Opening.{same_number}}, Leading.{over_leads}, memory.Places.{place_led}}
+use Rattle.cacache_system_model.specs.{Machine.{Place, under, OpenFile, node_of, Machine, IsRefused, moved, ChangesPlaces, ChangesTree, OpensIf, ShowsEnd, LinksNode, MovesNode, unread}, Calls.{GoesWell, OccursSomehow, part_opened, LeavesCreated}, Laws.{answer_on, LeavesFresh, step_on, outcome, led_to, IsDone, IsLucky, Agrees}, StepLaws.{StillStands, CreateAgrees, ExistsAgrees, SymlinkAgrees, HardLinkAgrees, ReflinkBreaks}}
+use Rattle.cacache_system_model.proofs.{Refusing.{same_outcome, refused_agrees, plainly_refused, broken_agrees}, Steps.{OneCalls.{one_agrees}, Writing.{look_same}, Opening.{same_number}}, Leading.{over_leads}, memory.Places.{place_led}}
 
 -- a step that answers that it is done, if its call changed the tree
 module _ (new : Names → Tree) (step : NumberedStep) (m n : Machine) (end : CallResult) (done : answer_of step says.Done ≡ answers.Done)

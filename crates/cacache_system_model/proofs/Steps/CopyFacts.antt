@@ -3,7 +3,7 @@ use Rattle.std.proofs.{lemmas.List.Elements.{All-head, All-tail}, Common.{◌≡
 use Rattle.std.specs.{Cmp.Lexicographic.{pointwise}, Prelude.{Option, None, Some, Result, Ok, Err}}
 use Rattle.std_io.specs.declared.io.kind.ErrorKind.{ErrorKind}
 use Rattle.std_io.specs.declared.io.kind.ErrorKind.TheVariants as kind
-use Rattle.cacache_core.specs.{Contexts.{fault_of}, declared.errors.Fault.{Fault, TheVariants.{NotFound, IsADirectory, InvalidInput, AlreadyExists}}, PathNames.{Names, names_of, pieces, is_bad, is_name, IsProperName}, Paths.{temp_area}}
+use Rattle.cacache_core.specs.{Errors.{fault_of}, declared.errors.Fault.{Fault, TheVariants.{NotFound, IsADirectory, InvalidInput, AlreadyExists}}, Paths.{Names, names_of, pieces, is_bad, is_name, IsProperName, temp_area}}
 use Rattle.cacache_core.proofs.ProperNames.{names_are_proper}
 use Rattle.cacache_store.specs.declared.store.step.Step.TheVariants as steps
 use Rattle.cacache_store.specs.declared.store.answer.Answer.TheVariants as answers

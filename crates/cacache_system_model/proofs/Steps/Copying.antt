@@ -3,17 +3,17 @@ use Rattle.std.proofs.Common.{◌≡◌, ◌⊎◌, ◌&&◌, ◌||◌, not, ℕ
 use Rattle.std.specs.{Cmp.Lexicographic.{pointwise}, Prelude.{Option, None, Some, Result, Ok, Err, MatchResult}}
 use Rattle.std_io.specs.declared.io.kind.ErrorKind.{ErrorKind}
 use Rattle.std_io.specs.declared.io.kind.ErrorKind.TheVariants as kind
-use Rattle.cacache_core.specs.{Contexts.{fault_of}, declared.errors.Fault.{Fault, TheVariants.{NotFound, IsADirectory, InvalidInput, AlreadyExists}}, PathNames.{Names, names_of}}
+use Rattle.cacache_core.specs.{Errors.{fault_of}, declared.errors.Fault.{Fault, TheVariants.{NotFound, IsADirectory, InvalidInput, AlreadyExists}}, Paths.{Names, names_of}}
 use Rattle.cacache_store.specs.{declared.store.answer.Kind.{Kind}, Plain.{PlainAnswer}}
 use Rattle.cacache_store.specs.declared.store.step.Step.TheVariants as steps
 use Rattle.cacache_store.specs.declared.store.answer.Answer.TheVariants as answers
 use Rattle.cacache_disk.specs.{declared.{luck.Luck.TheVariants.{Plain, Fail}, node.Node.{Node, TheVariants.{Folder, File, Link}}}, Tree.{Tree, look, put, cut, same_path}, LedTo.{or_fault, leads, found, file_at, writable, place, standing, removable, replaceable, where_free, where_no_folder}, Apply.{if_missing, apply, taken, fault_told, made_up}}
 use Rattle.cacache_disk.proofs.{Maps.{put_same, same_path-true}, FoundNodes.{place_ok, or_fault_none}}
-use Rattle.cacache_system.specs.{declared.call.{FileInfo.{FileInfo}, CallResult.{CallResult}}, CallsOf.{Stage, over, only, taking_memory, asking_source, asking_target, asking_end, making_end, resolving, making_fresh, filling, replacing, scrapping, place_fresh, source_known, target_known, copied, name_taken, already_exists, is_absent, is_link, is_same_node, fresh_name, fresh_number, fresh_beside, after}, AnswersOf.{answer_of, misses, refuses_memory}}
+use Rattle.cacache_system.specs.{declared.call.{FileInfo.{FileInfo}, CallResult.{CallResult}}, CallsOf.{Stage, over, only, taking_memory, asking_source, asking_target, asking_end, making_end, resolving, making_fresh, filling, replacing, scrapping, place_fresh, source_known, target_known, copied, name_taken, already_exists, is_absent, is_link, is_same_node, fresh_name, fresh_number, fresh_beside, after}, AnswersOf.{answer_of, first_number, misses, refuses_memory}}
 use Rattle.cacache_system.specs.declared.call.SystemCall.TheVariants as asks
 use Rattle.cacache_system.specs.declared.call.CallResult.TheVariants as says
 use Rattle.cacache_system_model.specs.{Machine.{Machine, IsRefused, moved, ChangesPlaces, RemovesNode, OpensIf, ShowsEnd, ShowsNode, Describes, found_bytes, CopiesBytes, MovesNode, SpellsEnd, with_empty}, Calls.{LeavesCreated, brought, part_copied, part_opened}, Laws.{answer_on, outcome, Leads, IsDone}, Writing.{HasNoFresh, CanCopy, CopyAgrees}}
-use Rattle.cacache_system_model.proofs.{Refused.{same_outcome, failed, failing_apply, never_missing}, Leading.{Claim, over_leads, call_leads}, Claims.{way_of, claim_of, cases_of, taking_leads, claim_plain, claim_lucky, claim_broken, claim_memory}, Steps.{Opening.{said_leads, of_some}, Looking.{refused_folder, wanted_file}, CopyFacts.{either_true, same_text, apply_copy, whole_file, writable_found, Source, Ready, same_node_numbers, writable_at, Stands, no_way, nothing, a_folder_here, a_file_here, a_link_here, stands_so, not_absent, exists_fine, absent_fault, not_taken_fault, not_taken, fault_absent, no_place, unnamed, fresh_proper}}, Views.{View, nowhere, a_folder, a_file, view}, Fresh.{placed_as, placed_beside, look_new, own_place, own_writable, own_removable, replaceable_still, leads_still, file_still, cut_new, put_new, free_at_place, dangling}}
+use Rattle.cacache_system_model.proofs.{Refusing.{same_outcome, failed, failing_apply, never_missing}, Leading.{Claim, over_leads, call_leads}, Claims.{way_of, claim_of, cases_of, taking_leads, claim_plain, claim_lucky, claim_broken, claim_memory}, Steps.{Opening.{said_leads, of_some}, Looking.{refused_folder, wanted_file}, CopyFacts.{either_true, same_text, apply_copy, whole_file, writable_found, Source, Ready, same_node_numbers, writable_at, Stands, no_way, nothing, a_folder_here, a_file_here, a_link_here, stands_so, not_absent, exists_fine, absent_fault, not_taken_fault, not_taken, fault_absent, no_place, unnamed, fresh_proper}}, Views.{View, nowhere, a_folder, a_file, view}, Fresh.{placed_as, placed_beside, look_new, own_place, own_writable, own_removable, replaceable_still, leads_still, file_still, cut_new, put_new, free_at_place, dangling}}
 
 -- where something is and where nothing is
 other_names : (t : Tree) (source fn : Names) (bytes : List ℕ) (c : Bool) → same_path source fn ≡ c → look t source ≡ Some (File bytes) → look t fn ≡ None → same_path source fn ≡ false
@@ -21,7 +21,7 @@ other_names t source fn bytes false is there none = is
 other_names t source fn bytes true is there none =
     absurd (let wrong : Some (File bytes) ≡ None = sym there ∙ ap (look t) (same_path-true source fn is) ∙ none in cc)
 
-module _ (b : Bool) (m : Machine) (from to : List ℕ) (can : CanCopy m to) (done : b ≡ false → IsDone m (steps.Copy from to)) (clear : b ≡ true → HasNoFresh m) where
+module _ (first_tried : ℕ) (b : Bool) (m : Machine) (from to : List ℕ) (can : CanCopy m to) (done : b ≡ false → IsDone m (steps.Copy from to)) (clear : b ≡ true → HasNoFresh m) where
   abbrev P : Claim
   P = claim_of b m (steps.Copy from to)
 
@@ -241,12 +241,12 @@ module _ (b : Bool) (m : Machine) (from to : List ℕ) (can : CanCopy m to) (don
   -- ---- what is at the target, or where it leads
 
   -- how the copy goes on over a file
-  abbrev next : Bool → FileInfo → Stage
-  next through source = if through then resolving source.inode from to else place_fresh source.inode from to
+  abbrev next : Bool → Stage
+  next through = if through then resolving first_tried from to else place_fresh first_tried from to
 
   over_file : (through : Bool) (source target : FileInfo) (other : Names) (more bytes : List ℕ) (same regular : Bool) (is : Source m from source bytes) → found m.tree to ≡ Ok other → look m.tree other ≡ Some (File more)
-      → Describes (File more) (m.inodes other) target → (pointwise nat_eq from to || is_same_node source target) ≡ same → target.regular ≡ regular → Leads (way_of b) (next through source) m P
-      → Leads (way_of b) (if same then over (says.Count source.size) else if not regular then only (asks.CopyFile from to) else next through source) m P
+      → Describes (File more) (m.inodes other) target → (pointwise nat_eq from to || is_same_node source target) ≡ same → target.regular ≡ regular → Leads (way_of b) (next through) m P
+      → Leads (way_of b) (if same then over (says.Count source.size) else if not regular then only (asks.CopyFile from to) else next through) m P
   over_file through source target other more bytes true regular is at there shown same_is regular_is goes =
       one_file source target other (File more) bytes is at there shown (either_true (pointwise nat_eq from to) (is_same_node source target) same_is)
   over_file through source target other more bytes false true is at there shown same_is regular_is goes = goes
@@ -256,29 +256,29 @@ module _ (b : Bool) (m : Machine) (from to : List ℕ) (can : CanCopy m to) (don
   abbrev kept_or : Bool → FileInfo → FileInfo → Stage
   kept_or through source target =
       if pointwise nat_eq from to || is_same_node source target then over (says.Count source.size)
-      else if not target.regular then only (asks.CopyFile from to) else next through source
+      else if not target.regular then only (asks.CopyFile from to) else next through
 
   copied_over : (through : Bool) (source target : FileInfo) (other : Names) (more bytes : List ℕ) (is : Source m from source bytes) → found m.tree to ≡ Ok other → look m.tree other ≡ Some (File more)
-      → Describes (File more) (m.inodes other) target → Leads (way_of b) (next through source) m P → Leads (way_of b) (copied through source target from to) m P
+      → Describes (File more) (m.inodes other) target → Leads (way_of b) (next through) m P → Leads (way_of b) (copied first_tried through source target from to) m P
   copied_over through source target other more bytes is at there shown goes =
       wanted_file b target.kind (kept_or through source target) m P shown.kind
       (over_file through source target other more bytes (pointwise nat_eq from to || is_same_node source target) target.regular is at there shown refl refl goes)
 
   copied_folder : (through : Bool) (source target : FileInfo) (bytes : List ℕ) (inode : ℕ × ℕ) → file_at m.tree from InvalidInput ≡ Ok bytes → writable m.tree to ≡ Err IsADirectory → Describes Folder inode target
-      → Leads (way_of b) (copied through source target from to) m P
+      → Leads (way_of b) (copied first_tried through source target from to) m P
   copied_folder through source target bytes inode read refused shown =
       refused_folder b target.kind (kept_or through source target) m P shown.kind (fails_plain IsADirectory kind.IsADirectory m (refused_target bytes IsADirectory read refused) refl refl)
 
   resolve_leads : (source : FileInfo) (names : Names) (bytes more : List ℕ) (is : Source m from source bytes) → found m.tree to ≡ Ok names → look m.tree names ≡ Some (File more) → writable m.tree to ≡ Ok names
-      → Leads (way_of b) (resolving source.inode from to) m P
+      → Leads (way_of b) (resolving first_tried from to) m P
   resolve_leads source names bytes more is at there target =
-      call_leads (way_of b) (resolving source.inode from to) (asks.RealPath to) m P refl (λ end never. absurd never) (λ said n happens.
+      call_leads (way_of b) (resolving first_tried from to) (asks.RealPath to) m P refl (λ end never. absurd never) (λ said n happens.
       ⊎_elim
       (λ (most, all, well).
       let spelt : SpellsEnd (Ok names) m said n = subst (λ (r : Result Names Fault). SpellsEnd r m said n) at well in
       let (text, same, spells, stays) = spelt in
-      said_leads b (resolving source.inode from to) said (says.Bytes text) n P same
-      (subst (λ (x : Machine). Leads (way_of b) (place_fresh source.inode from text) x P) (sym stays)
+      said_leads b (resolving first_tried from to) said (says.Bytes text) n P same
+      (subst (λ (x : Machine). Leads (way_of b) (place_fresh first_tried from text) x P) (sym stays)
       (place_leads text bytes names (record {
         source = is.names;
         led = is.led;
@@ -288,30 +288,30 @@ module _ (b : Bool) (m : Machine) (from to : List ℕ) (can : CanCopy m to) (don
         placed = spells.stands;
         replaced = ap (λ (o : Option Node). where_no_folder o names) there;
         ends = spells.ends;
-      }) source.inode)))
+      }) first_tried)))
       (λ (broke, why, same, fine, part, left).
-      said_leads b (resolving source.inode from to) said (says.Failed why) n P same
+      said_leads b (resolving first_tried from to) said (says.Failed why) n P same
       (over_leads (way_of b) (says.Failed why) n P (broke_same why n broke fine (ap (λ (x : Machine). x.tree) left))))
       (cases_of b m (asks.RealPath to) said n happens))
 
   -- a link that leads to nothing
-  end_leads : (source : FileInfo) (bytes : List ℕ) (fault : Fault) → file_at m.tree from InvalidInput ≡ Ok bytes → writable m.tree to ≡ Err fault → Leads (way_of b) (making_end source.inode from to) m P
-  end_leads source bytes fault read refused =
-      call_leads (way_of b) (making_end source.inode from to) (asks.OpenToAppend to) m P refl (λ end never. absurd never) (λ said n happens.
+  end_leads : (bytes : List ℕ) (fault : Fault) → file_at m.tree from InvalidInput ≡ Ok bytes → writable m.tree to ≡ Err fault → Leads (way_of b) (making_end first_tried from to) m P
+  end_leads bytes fault read refused =
+      call_leads (way_of b) (making_end first_tried from to) (asks.OpenToAppend to) m P refl (λ end never. absurd never) (λ said n happens.
       ⊎_elim
       (λ (most, all, well).
       let is : IsRefused fault m said n = subst (λ (r : Result Names Fault). OpensIf r (with_empty m.tree) m said n) refused well in
-      said_leads b (making_end source.inode from to) said (says.Failed is.0) n P is.1
+      said_leads b (making_end first_tried from to) said (says.Failed is.0) n P is.1
       (over_leads (way_of b) (says.Failed is.0) n P (fails_plain fault is.0 n (refused_target bytes fault read refused) is.2 (ap (λ (x : Machine). x.tree) is.4))))
       (λ (broke, why, same, fine, part, left).
-      said_leads b (making_end source.inode from to) said (says.Failed why) n P same
+      said_leads b (making_end first_tried from to) said (says.Failed why) n P same
       (over_leads (way_of b) (says.Failed why) n P (broke_same why n broke fine (left.0 ∙ ap (λ (r : Result Names Fault). part_opened r part m.tree) refused))))
       (cases_of b m (asks.OpenToAppend to) said n happens))
 
-  end_if : (source : FileInfo) (bytes : List ℕ) (fault : Fault) (why : ErrorKind) (c : Bool) → file_at m.tree from InvalidInput ≡ Ok bytes → writable m.tree to ≡ Err fault → P (says.Failed why) m
-      → Leads (way_of b) (if c then making_end source.inode from to else over (says.Failed why)) m P
-  end_if source bytes fault why true read refused holds = end_leads source bytes fault read refused
-  end_if source bytes fault why false read refused holds = over_leads (way_of b) (says.Failed why) m P holds
+  end_if : (bytes : List ℕ) (fault : Fault) (why : ErrorKind) (c : Bool) → file_at m.tree from InvalidInput ≡ Ok bytes → writable m.tree to ≡ Err fault → P (says.Failed why) m
+      → Leads (way_of b) (if c then making_end first_tried from to else over (says.Failed why)) m P
+  end_if bytes fault why true read refused holds = end_leads bytes fault read refused
+  end_if bytes fault why false read refused holds = over_leads (way_of b) (says.Failed why) m P holds
 
   broke_if : (s : Stage) (why : ErrorKind) (n : Machine) (c : Bool) → b ≡ false → misses why ≡ false → is_absent why ≡ c → n.tree ≡ m.tree
       → Leads (way_of b) (if c then s else over (says.Failed why)) n P
@@ -319,37 +319,37 @@ module _ (b : Bool) (m : Machine) (from to : List ℕ) (can : CanCopy m to) (don
   broke_if s why n false broke fine is stays = over_leads (way_of b) (says.Failed why) n P (broke_same why n broke fine stays)
 
   end_found : (v : View m.tree to) (source : FileInfo) (link : Names) (node : Node) (bytes : List ℕ) (is : Source m from source bytes) → place m.tree to ≡ Ok link → look m.tree link ≡ Some node → (said : CallResult) (n : Machine)
-      → ShowsEnd (found m.tree to) m said n → Leads (way_of b) (after (asking_end source from to) said) n P
+      → ShowsEnd (found m.tree to) m said n → Leads (way_of b) (after (asking_end first_tried source from to) said) n P
   end_found (nowhere fault at file) source link node bytes is placed there said n shows =
       let refused_so : IsRefused fault m said n = subst (λ (r : Result Names Fault). ShowsEnd r m said n) at shows in
       let (why, same, of, memory, stays) = refused_so in
       let refused = dangling m.tree to link node fault placed there at in
-      said_leads b (asking_end source from to) said (says.Failed why) n P same
-      (subst (λ (x : Machine). Leads (way_of b) (if is_absent why then making_end source.inode from to else over (says.Failed why)) x P) (sym stays)
-      (end_if source bytes fault why (is_absent why) is.read refused (fails_plain fault why m (refused_target bytes fault is.read refused) of refl)))
+      said_leads b (asking_end first_tried source from to) said (says.Failed why) n P same
+      (subst (λ (x : Machine). Leads (way_of b) (if is_absent why then making_end first_tried from to else over (says.Failed why)) x P) (sym stays)
+      (end_if bytes fault why (is_absent why) is.read refused (fails_plain fault why m (refused_target bytes fault is.read refused) of refl)))
   end_found (a_folder names l at stands file) source link node bytes is placed there said n shows =
       let shown_so : ShowsNode names m said n = subst (λ (r : Result Names Fault). ShowsEnd r m said n) at shows in
       let (info, same, fits, stays) = shown_so in
-      said_leads b (asking_end source from to) said (says.Info info) n P same
-      (subst (λ (x : Machine). Leads (way_of b) (copied true source info from to) x P) (sym stays)
+      said_leads b (asking_end first_tried source from to) said (says.Info info) n P same
+      (subst (λ (x : Machine). Leads (way_of b) (copied first_tried true source info from to) x P) (sym stays)
       (copied_folder true source info bytes (m.inodes names) is.read (writable_at m.tree to (Ok names) l ∙ ap (λ (o : Option Node). where_no_folder o names) stands)
       (of_some (look m.tree names) Folder (λ x. Describes x (m.inodes names) info) stands fits)))
   end_found (a_file names more l at stands file) source link node bytes is placed there said n shows =
       let shown_so : ShowsNode names m said n = subst (λ (r : Result Names Fault). ShowsEnd r m said n) at shows in
       let (info, same, fits, stays) = shown_so in
-      said_leads b (asking_end source from to) said (says.Info info) n P same
-      (subst (λ (x : Machine). Leads (way_of b) (copied true source info from to) x P) (sym stays)
+      said_leads b (asking_end first_tried source from to) said (says.Info info) n P same
+      (subst (λ (x : Machine). Leads (way_of b) (copied first_tried true source info from to) x P) (sym stays)
       (copied_over true source info names more bytes is at stands (of_some (look m.tree names) (File more) (λ x. Describes x (m.inodes names) info) stands fits)
       (resolve_leads source names bytes more is at stands (writable_found m.tree to names more at stands))))
 
-  asking_leads : (source : FileInfo) (link : Names) (node : Node) (bytes : List ℕ) (is : Source m from source bytes) → place m.tree to ≡ Ok link → look m.tree link ≡ Some node → Leads (way_of b) (asking_end source from to) m P
+  asking_leads : (source : FileInfo) (link : Names) (node : Node) (bytes : List ℕ) (is : Source m from source bytes) → place m.tree to ≡ Ok link → look m.tree link ≡ Some node → Leads (way_of b) (asking_end first_tried source from to) m P
   asking_leads source link node bytes is placed there =
-      call_leads (way_of b) (asking_end source from to) (asks.Stat to) m P refl (λ end never. absurd never) (λ said n happens.
+      call_leads (way_of b) (asking_end first_tried source from to) (asks.Stat to) m P refl (λ end never. absurd never) (λ said n happens.
       ⊎_elim
       (λ (most, all, well). end_found (view m.tree to) source link node bytes is placed there said n well)
       (λ (broke, why, same, fine, part, left).
-      said_leads b (asking_end source from to) said (says.Failed why) n P same
-      (broke_if (making_end source.inode from to) why n (is_absent why) broke fine refl (ap (λ (x : Machine). x.tree) left)))
+      said_leads b (asking_end first_tried source from to) said (says.Failed why) n P same
+      (broke_if (making_end first_tried from to) why n (is_absent why) broke fine refl (ap (λ (x : Machine). x.tree) left)))
       (cases_of b m (asks.Stat to) said n happens))
 
   -- ---- nothing is at the target
@@ -376,23 +376,23 @@ module _ (b : Bool) (m : Machine) (from to : List ℕ) (can : CanCopy m to) (don
       (cases_of b m (asks.CreateNew (fresh_beside to k) 384) said n happens))
 
   no_place_leads : (source : FileInfo) (bytes : List ℕ) (fault : Fault) (why : ErrorKind) (n : Machine) (c : Bool) (r : Result Names Fault) (is : Source m from source bytes) → place m.tree to ≡ Err fault → writable m.tree to ≡ Err fault
-      → fault_of why ≡ fault → n ≡ m → is_absent why ≡ c → names_of to ≡ r → Leads (way_of b) (if c then place_fresh source.inode from to else over (says.Failed why)) n P
+      → fault_of why ≡ fault → n ≡ m → is_absent why ≡ c → names_of to ≡ r → Leads (way_of b) (if c then place_fresh first_tried from to else over (says.Failed why)) n P
   no_place_leads source bytes fault why n false r is at refused of stays absent named =
       over_leads (way_of b) (says.Failed why) n P (fails_plain fault why n (refused_target bytes fault is.read refused) of (ap (λ (x : Machine). x.tree) stays))
   no_place_leads source bytes fault why n true (Ok ns) is at refused of stays absent named =
       let missing : fault ≡ NotFound = sym of ∙ absent_fault why absent in
-      subst (λ (x : Machine). Leads (way_of b) (place_fresh source.inode from to) x P) (sym stays)
-      (taking_leads (way_of b) (making_fresh 255 source.inode from to) m P memory_same
-      (missing_leads 255 source.inode bytes ns is.read
+      subst (λ (x : Machine). Leads (way_of b) (place_fresh first_tried from to) x P) (sym stays)
+      (taking_leads (way_of b) (making_fresh 255 first_tried from to) m P memory_same
+      (missing_leads 255 first_tried bytes ns is.read
       (refused ∙ ap (λ (f : Fault). let r : Result Names Fault = Err f in r) missing) named (at ∙ ap (λ (f : Fault). let r : Result Names Fault = Err f in r) missing)))
   no_place_leads source bytes fault why n true (Err other) is at refused of stays absent named =
       absurd (unnamed to other named can.ends (sym (placed_as m.tree to (Err other) named) ∙ at ∙ ap (λ (f : Fault). let r : Result Names Fault = Err f in r) (sym of ∙ absent_fault why absent)))
 
   free_leads : (source : FileInfo) (names : Names) (bytes : List ℕ) (why : ErrorKind) (n : Machine) (c : Bool) (is : Source m from source bytes) → place m.tree to ≡ Ok names → look m.tree names ≡ None → writable m.tree to ≡ Ok names
-      → fault_of why ≡ NotFound → is_absent why ≡ c → n ≡ m → Leads (way_of b) (if c then place_fresh source.inode from to else over (says.Failed why)) n P
+      → fault_of why ≡ NotFound → is_absent why ≡ c → n ≡ m → Leads (way_of b) (if c then place_fresh first_tried from to else over (says.Failed why)) n P
   free_leads source names bytes why n false is at none target of absent stays = absurd (let wrong : true ≡ false = sym (fault_absent why of) ∙ absent in cc)
   free_leads source names bytes why n true is at none target of absent stays =
-      subst (λ (x : Machine). Leads (way_of b) (place_fresh source.inode from to) x P) (sym stays)
+      subst (λ (x : Machine). Leads (way_of b) (place_fresh first_tried from to) x P) (sym stays)
       (place_leads to bytes names (record {
         source = is.names;
         led = is.led;
@@ -402,40 +402,40 @@ module _ (b : Bool) (m : Machine) (from to : List ℕ) (can : CanCopy m to) (don
         placed = at;
         replaced = ap (λ (o : Option Node). where_no_folder o names) none;
         ends = can.ends;
-      }) source.inode)
+      }) first_tried)
 
   -- ---- the target
 
-  link_if : (k : Kind) (source target : FileInfo) (s : Stage) (c : Bool) (n : Machine) → is_link k ≡ c → Leads (way_of b) (if c then asking_end source from to else s) n P → Leads (way_of b) (if is_link k then asking_end source from to else s) n P
-  link_if k source target s c n is leads = subst (λ (x : Bool). Leads (way_of b) (if x then asking_end source from to else s) n P) (sym is) leads
+  link_if : (k : Kind) (source target : FileInfo) (s : Stage) (c : Bool) (n : Machine) → is_link k ≡ c → Leads (way_of b) (if c then asking_end first_tried source from to else s) n P → Leads (way_of b) (if is_link k then asking_end first_tried source from to else s) n P
+  link_if k source target s c n is leads = subst (λ (x : Bool). Leads (way_of b) (if x then asking_end first_tried source from to else s) n P) (sym is) leads
 
   target_stands : (v : Stands m.tree to) (source : FileInfo) (bytes : List ℕ) (is : Source m from source bytes) (said : CallResult) (n : Machine) → ShowsEnd (standing m.tree to) m said n
-      → Leads (way_of b) (after (asking_target source from to) said) n P
+      → Leads (way_of b) (after (asking_target first_tried source from to) said) n P
   target_stands (no_way fault at shown refused) source bytes is said n shows =
       let refused_so : IsRefused fault m said n = subst (λ (r : Result Names Fault). ShowsEnd r m said n) shown shows in
       let (why, same, of, memory, stays) = refused_so in
-      said_leads b (asking_target source from to) said (says.Failed why) n P same
+      said_leads b (asking_target first_tried source from to) said (says.Failed why) n P same
       (no_place_leads source bytes fault why n (is_absent why) (names_of to) is at refused of stays refl refl)
   target_stands (nothing names at none shown target) source bytes is said n shows =
       let refused_so : IsRefused NotFound m said n = subst (λ (r : Result Names Fault). ShowsEnd r m said n) shown shows in
       let (why, same, of, memory, stays) = refused_so in
-      said_leads b (asking_target source from to) said (says.Failed why) n P same
+      said_leads b (asking_target first_tried source from to) said (says.Failed why) n P same
       (free_leads source names bytes why n (is_absent why) is at none target of refl stays)
   target_stands (a_folder_here names there shown at refused) source bytes is said n shows =
       let shown_so : ShowsNode names m said n = subst (λ (r : Result Names Fault). ShowsEnd r m said n) shown shows in
       let (info, same, fits, stays) = shown_so in
       let described = of_some (look m.tree names) Folder (λ x. Describes x (m.inodes names) info) there fits in
-      said_leads b (asking_target source from to) said (says.Info info) n P same
-      (subst (λ (x : Machine). Leads (way_of b) (target_known source info from to) x P) (sym stays)
-      (link_if info.kind source info (copied false source info from to) false m (ap is_link described.kind)
+      said_leads b (asking_target first_tried source from to) said (says.Info info) n P same
+      (subst (λ (x : Machine). Leads (way_of b) (target_known first_tried source info from to) x P) (sym stays)
+      (link_if info.kind source info (copied first_tried false source info from to) false m (ap is_link described.kind)
       (copied_folder false source info bytes (m.inodes names) is.read refused described)))
   target_stands (a_file_here names more placed there shown at target) source bytes is said n shows =
       let shown_so : ShowsNode names m said n = subst (λ (r : Result Names Fault). ShowsEnd r m said n) shown shows in
       let (info, same, fits, stays) = shown_so in
       let described = of_some (look m.tree names) (File more) (λ x. Describes x (m.inodes names) info) there fits in
-      said_leads b (asking_target source from to) said (says.Info info) n P same
-      (subst (λ (x : Machine). Leads (way_of b) (target_known source info from to) x P) (sym stays)
-      (link_if info.kind source info (copied false source info from to) false m (ap is_link described.kind)
+      said_leads b (asking_target first_tried source from to) said (says.Info info) n P same
+      (subst (λ (x : Machine). Leads (way_of b) (target_known first_tried source info from to) x P) (sym stays)
+      (link_if info.kind source info (copied first_tried false source info from to) false m (ap is_link described.kind)
       (copied_over false source info names more bytes is at there described
       (place_leads to bytes names (record {
         source = is.names;
@@ -446,23 +446,23 @@ module _ (b : Bool) (m : Machine) (from to : List ℕ) (can : CanCopy m to) (don
         placed = placed;
         replaced = ap (λ (o : Option Node). where_no_folder o names) there;
         ends = can.ends;
-      }) source.inode))))
+      }) first_tried))))
   target_stands (a_link_here names leads_to placed there shown) source bytes is said n shows =
       let shown_so : ShowsNode names m said n = subst (λ (r : Result Names Fault). ShowsEnd r m said n) shown shows in
       let (info, same, fits, stays) = shown_so in
       let described = of_some (look m.tree names) (Link leads_to) (λ x. Describes x (m.inodes names) info) there fits in
-      said_leads b (asking_target source from to) said (says.Info info) n P same
-      (subst (λ (x : Machine). Leads (way_of b) (target_known source info from to) x P) (sym stays)
-      (link_if info.kind source info (copied false source info from to) true m (ap is_link described.kind) (asking_leads source names (Link leads_to) bytes is placed there)))
+      said_leads b (asking_target first_tried source from to) said (says.Info info) n P same
+      (subst (λ (x : Machine). Leads (way_of b) (target_known first_tried source info from to) x P) (sym stays)
+      (link_if info.kind source info (copied first_tried false source info from to) true m (ap is_link described.kind) (asking_leads source names (Link leads_to) bytes is placed there)))
 
-  target_leads : (source : FileInfo) (bytes : List ℕ) → Source m from source bytes → Leads (way_of b) (asking_target source from to) m P
+  target_leads : (source : FileInfo) (bytes : List ℕ) → Source m from source bytes → Leads (way_of b) (asking_target first_tried source from to) m P
   target_leads source bytes is =
-      call_leads (way_of b) (asking_target source from to) (asks.StatLink to) m P refl (λ end never. absurd never) (λ said n happens.
+      call_leads (way_of b) (asking_target first_tried source from to) (asks.StatLink to) m P refl (λ end never. absurd never) (λ said n happens.
       ⊎_elim
       (λ (most, all, well). target_stands (stands_so m.tree to (place m.tree to) refl) source bytes is said n well)
       (λ (broke, why, same, fine, part, left).
-      said_leads b (asking_target source from to) said (says.Failed why) n P same
-      (broke_if (place_fresh source.inode from to) why n (is_absent why) broke fine refl (ap (λ (x : Machine). x.tree) left)))
+      said_leads b (asking_target first_tried source from to) said (says.Failed why) n P same
+      (broke_if (place_fresh first_tried from to) why n (is_absent why) broke fine refl (ap (λ (x : Machine). x.tree) left)))
       (cases_of b m (asks.StatLink to) said n happens))
 
   -- ---- the source
@@ -471,42 +471,42 @@ module _ (b : Bool) (m : Machine) (from to : List ℕ) (can : CanCopy m to) (don
       → Leads (way_of b) (if source.regular then s else over (says.Failed kind.InvalidInput)) n P
   regular_if source s c n is leads = subst (λ (x : Bool). Leads (way_of b) (if x then s else over (says.Failed kind.InvalidInput)) n P) (sym is) leads
 
-  source_found : (v : View m.tree from) (said : CallResult) (n : Machine) → ShowsEnd (found m.tree from) m said n → Leads (way_of b) (after (asking_source from to) said) n P
+  source_found : (v : View m.tree from) (said : CallResult) (n : Machine) → ShowsEnd (found m.tree from) m said n → Leads (way_of b) (after (asking_source first_tried from to) said) n P
   source_found (nowhere fault is file) said n shows =
       let refused_so : IsRefused fault m said n = subst (λ (r : Result Names Fault). ShowsEnd r m said n) is shows in
       let (why, same, of, memory, stays) = refused_so in
-      said_leads b (asking_source from to) said (says.Failed why) n P same
+      said_leads b (asking_source first_tried from to) said (says.Failed why) n P same
       (over_leads (way_of b) (says.Failed why) n P
       (fails_plain fault why n (apply_copy m.tree from to (Err fault) (writable m.tree to) (file InvalidInput) refl) of (ap (λ (x : Machine). x.tree) stays)))
   source_found (a_folder names l is stands file) said n shows =
       let shown_so : ShowsNode names m said n = subst (λ (r : Result Names Fault). ShowsEnd r m said n) is shows in
       let (info, same, fits, stays) = shown_so in
       let described = of_some (look m.tree names) Folder (λ x. Describes x (m.inodes names) info) stands fits in
-      said_leads b (asking_source from to) said (says.Info info) n P same
-      (regular_if info (asking_target info from to) false n described.regular
+      said_leads b (asking_source first_tried from to) said (says.Info info) n P same
+      (regular_if info (asking_target first_tried info from to) false n described.regular
       (over_leads (way_of b) (says.Failed kind.InvalidInput) n P
       (fails_plain InvalidInput kind.InvalidInput n (apply_copy m.tree from to (Err InvalidInput) (writable m.tree to) (file InvalidInput) refl) refl (ap (λ (x : Machine). x.tree) stays))))
   source_found (a_file names bytes l is stands file) said n shows =
       let shown_so : ShowsNode names m said n = subst (λ (r : Result Names Fault). ShowsEnd r m said n) is shows in
       let (info, same, fits, stays) = shown_so in
       let described = of_some (look m.tree names) (File bytes) (λ x. Describes x (m.inodes names) info) stands fits in
-      said_leads b (asking_source from to) said (says.Info info) n P same
-      (subst (λ (x : Machine). Leads (way_of b) (source_known info from to) x P) (sym stays)
-      (regular_if info (asking_target info from to) true m described.regular
+      said_leads b (asking_source first_tried from to) said (says.Info info) n P same
+      (subst (λ (x : Machine). Leads (way_of b) (source_known first_tried info from to) x P) (sym stays)
+      (regular_if info (asking_target first_tried info from to) true m described.regular
       (target_leads info bytes (record { names = names; led = l; is = is; stands = stands; read = file InvalidInput; described = described }))))
 
-  copy_leads : Leads (way_of b) (asking_source from to) m P
+  copy_leads : Leads (way_of b) (asking_source first_tried from to) m P
   copy_leads =
-      call_leads (way_of b) (asking_source from to) (asks.Stat from) m P refl (λ end never. absurd never) (λ said n happens.
+      call_leads (way_of b) (asking_source first_tried from to) (asks.Stat from) m P refl (λ end never. absurd never) (λ said n happens.
       ⊎_elim
       (λ (most, all, well). source_found (view m.tree from) said n well)
       (λ (broke, why, same, fine, part, left).
-      said_leads b (asking_source from to) said (says.Failed why) n P same
+      said_leads b (asking_source first_tried from to) said (says.Failed why) n P same
       (over_leads (way_of b) (says.Failed why) n P (broke_same why n broke fine (ap (λ (x : Machine). x.tree) left))))
       (cases_of b m (asks.Stat from) said n happens))
 
 pub copy_agrees : CopyAgrees
 copy_agrees m hint from to can = record {
-  plainly = λ clear. copy_leads true m from to can (λ e. absurd cc) (λ e. clear);
-  breaking = λ done. copy_leads false m from to can (λ e. done) (λ e. absurd cc);
+  plainly = λ clear. copy_leads (first_number hint) true m from to can (λ e. absurd cc) (λ e. clear);
+  breaking = λ done. copy_leads (first_number hint) false m from to can (λ e. done) (λ e. absurd cc);
 }

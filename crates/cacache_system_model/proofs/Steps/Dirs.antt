@@ -3,19 +3,19 @@ use Rattle.std.proofs.{Common.{◌≡◌, ◌==◌, ℕ, Bool, true, false, if�
 use Rattle.std.specs.Prelude.{Option, None, Some, Result, Ok, Err}
 use Rattle.std_io.specs.declared.io.kind.ErrorKind.{ErrorKind}
 use Rattle.std_io.specs.declared.io.kind.ErrorKind.TheVariants as kind
-use Rattle.cacache_core.specs.{Contexts.{fault_of}, declared.errors.Fault.{Fault, TheVariants.{NotFound, AlreadyExists, NotADirectory, InvalidInput}}, PathNames.{Names, names_of, pieces, is_bad, is_name}}
+use Rattle.cacache_core.specs.{Errors.{fault_of}, declared.errors.Fault.{Fault, TheVariants.{NotFound, AlreadyExists, NotADirectory, InvalidInput}}, Paths.{Names, names_of, pieces, is_bad, is_name}}
 use Rattle.cacache_store.specs.declared.store.answer.Kind.{Kind}
 use Rattle.cacache_store.specs.declared.store.step.Step.TheVariants as steps
 use Rattle.cacache_store.specs.declared.store.answer.Answer.TheVariants as answers
-use Rattle.cacache_disk.specs.{declared.{luck.Luck.TheVariants.{Plain}, node.Node.{Node, TheVariants.{Folder, File}}}, Tree.{Tree, look, put}, LedTo.{and_then, or_fault, place, free, leads, followed, found, where_there, where_free, dirs, dirs_fault}, Apply.{apply, unless, make_some, making as how_many, left_by, fault_told}, Rooted.{Rooted}}
-use Rattle.cacache_disk.proofs.NameLemmas.{names_proper}
-use Rattle.cacache_system.specs.{declared.call.{FileInfo.{FileInfo}, CallResult.{CallResult}}, CallsOf.{Stage, over, standing, making, confirming, below, unmade, climb, above_of, is_absent, if_folder, after}, AnswersOf.{Hint, no_hint, is_missing, rewrites, make_dirs, refuses_memory}}
+use Rattle.cacache_disk.specs.{declared.{luck.Luck.TheVariants.{Plain}, node.Node.{Node, TheVariants.{Folder, File}}}, Tree.{Tree, look, put, Rooted}, LedTo.{and_then, or_fault, place, free, leads, followed, found, where_there, where_free, dirs, dirs_fault}, Apply.{apply, unless, make_some, making as how_many, left_by, fault_told}}
+use Rattle.cacache_disk.proofs.PathTexts.{names_proper}
+use Rattle.cacache_system.specs.{declared.call.{FileInfo.{FileInfo}, CallResult.{CallResult}}, CallsOf.{Stage, over, standing, making, confirming, below, unmade, climb, above_of, is_absent, if_folder, after}, AnswersOf.{Hint, is_missing, make_dirs, refuses_memory}}
 use Rattle.cacache_system.specs.declared.call.SystemCall.TheVariants as asks
 use Rattle.cacache_system.specs.declared.call.CallResult.TheVariants as says
-use Rattle.cacache_system_model.specs.{Machine.{Machine, IsRefused, ChangesTree, ShowsEnd, ShowsNode, Describes}, Calls.{GoesWell}, Laws.{outcome, Leads, IsPlain, IsDone}, Making.{HasNoLink, MakeDirsAgrees}}
-use Rattle.cacache_system_model.proofs.{Refused.{broken_part}, Leading.{Claim, over_leads, call_leads}, Claims.{way_of, claim_of, agrees_of, claim_plain, claim_lucky}, Steps.{Opening.{said_leads, of_some}, Looking.{table_fails}, Growing.{none_grown, grown_left, grown_whole, Blocked, on_way, at_last, blocked}, Making.{never_absent, DirsEnd, up_leads, stand_leads, place_so}, CopyFacts.{fault_absent}}, Views.{leads_straight, found_at}, Fresh.{free_at_place}}
+use Rattle.cacache_system_model.specs.{Machine.{Machine, IsRefused, ChangesTree, ShowsEnd, ShowsNode, Describes}, Calls.{GoesWell}, Laws.{outcome, Leads, IsPlain, IsDone}, StepLaws.{HasNoLink, MakeDirsAgrees}}
+use Rattle.cacache_system_model.proofs.{Refusing.{broken_part}, Leading.{Claim, over_leads, call_leads}, Claims.{way_of, claim_of, agrees_of, claim_plain, claim_lucky}, Steps.{Opening.{said_leads, of_some}, Looking.{table_fails}, Growing.{none_grown, grown_left, grown_whole, Blocked, on_way, at_last, blocked}, Making.{never_absent, DirsEnd, up_leads, stand_leads, place_so}, CopyFacts.{fault_absent}}, Views.{leads_straight, found_at}, Fresh.{free_at_place}}
 use Rattle.cacache_history.proofs.Contents.Deeds.{no_place}
-use Rattle.cacache_value.proofs.FoundPaths.{unmakeable}
+use Rattle.cacache_value.proofs.Applying.{unmakeable}
 
 apply_dirs : (t : Tree) (path : List ℕ) (r : Result Names Fault) → dirs t path ≡ r → apply t (steps.MakeDirs path) Plain ≡ unless r t (λ names. outcome answers.Done (make_some t [] names (length names)))
 unfolding apply
@@ -34,9 +34,8 @@ part_of_dirs : (t : Tree) (path : List ℕ) (names : Names) (part : ℕ) → dir
 part_of_dirs t path names part is = ap (λ (r : Result Names Fault). (unless r t (λ names. outcome answers.Done (make_some t [] names (how_many (Some part) names)))).1) is
 
 begins_so : (b : Bool) (hint : Hint) (path : List ℕ) (m : Machine) (P : Claim) → Leads (way_of b) (making false path []) m P → Leads (way_of b) (standing path) m P → Leads (way_of b) (make_dirs hint path) m P
-begins_so b no_hint path m P first second = second
 begins_so b is_missing path m P first second = first
-begins_so b (rewrites synced) path m P first second = second
+begins_so b hint path m P first second = second
 
 -- ---- folders that can be made
 

@@ -1,9 +1,9 @@
 -- Trees in which the folders of a path are made one by one.
 use Rattle.std.proofs.Common.{◌≡◌, ◌⊎◌, ◌≤◌, ◌==◌, ◌+◌, ◌-◌, ℕ, zero, suc, Bool, false, cond, List, [], ◌∷◌, ◌++◌, length, refl, sym, ap, subst, ◌∙◌, inl, inr, arith, append-nil, append_assoc, ne_eqb, zero-add, add-zero}
 use Rattle.std.specs.Prelude.{Option, None, Some}
-use Rattle.cacache_core.specs.{declared.errors.Fault.{Fault, TheVariants.{NotFound, AlreadyExists, NotADirectory}}, PathNames.{Names}}
-use Rattle.cacache_disk.specs.{declared.node.Node.{Node, TheVariants.{Folder, File, Link}}, Tree.{Tree, look, put}, LedTo.{way_fault, through, dirs_fault, is_in_way}, Apply.{make_some}, Rooted.{Rooted, AreProper, is_folder}}
-use Rattle.cacache_disk.proofs.{PutNodes.{look-put}, Roots.{put_rooted, front_proper, same_folder, same_self, no_fault, dirs_fault-put}, Standing.{upper_folder, way_clear, above_missing}, PathFolders.{make_none}}
+use Rattle.cacache_core.specs.{declared.errors.Fault.{Fault, TheVariants.{NotFound, AlreadyExists, NotADirectory}}, Paths.{Names}}
+use Rattle.cacache_disk.specs.{declared.node.Node.{Node, TheVariants.{Folder, File, Link}}, Tree.{Tree, look, put, Rooted, AreProper, is_folder}, LedTo.{way_fault, through, dirs_fault, is_in_way}, Apply.{make_some}}
+use Rattle.cacache_disk.proofs.{PutNodes.{look-put}, Roots.{put_rooted, front_proper, same_folder, same_self, no_fault, dirs_fault-put}, Standing.{upper_folder, way_clear, above_missing}, PathTexts.{make_none}}
 
 -- ---- what is on the way
 

@@ -1,19 +1,19 @@
 -- A folder is listed call by call.
-use Rattle.std.proofs.{Common.{◌≡◌, ◌≢◌, ◌==◌, ◌||◌, ◌&&◌, not, ◌-◌, ◌^◌, ℕ, zero, suc, Bool, true, false, if◌then◌else◌, List, [], ◌∷◌, ◌++◌, length, refl, sym, ap, subst, ◌∙◌, ⊎_elim, inl, inr, arith, ne_eqb, length-append, append-nil, append_assoc}, lemmas.{Bool.{or_parts}, List.{Elements.{All-from_recursion, recursion_from_All}, Sorted.{All-permutation}}}}
-use Rattle.std.specs.{Prelude.{Option, Some, MatchOption, IfNone, IsPermutation, Result, Ok}, List.{AllByRecursion, list_any}, Str.{is_utf8}}
+use Rattle.std.proofs.{lemmas.{Grind.{common_steps}, Bool.{or_parts}, List.{Elements.{All-from_recursion, recursion_from_All}, Sorted.{All-permutation}}}, Common.{rules, ◌≡◌, ◌≢◌, ◌==◌, ◌||◌, not, ◌-◌, ◌^◌, ℕ, zero, suc, Bool, true, false, if◌then◌else◌, List, [], ◌∷◌, ◌++◌, length, refl, sym, ap, subst, ◌∙◌, ⊎_elim, inl, inr, arith, ne_eqb, length-append, append-nil, append_assoc}}
+use Rattle.std.specs.{Prelude.{Option, Some, MatchOption, IfNone, IsPermutation, Result, Ok}, List.{AllByRecursion, list_any}}
 use Rattle.std_io.specs.declared.io.kind.ErrorKind.{ErrorKind}
 use Rattle.std_io.specs.declared.io.kind.ErrorKind.TheVariants as kind
-use Rattle.cacache_core.proofs.Splits.{split-append, split_none}
-use Rattle.cacache_core.specs.{declared.errors.Fault.{Fault, TheVariants.{Device, NotADirectory}}, PathNames.{Names, is_above, ends_name, IsProperName}}
-use Rattle.cacache_store.specs.{Plain.{PlainAnswer}, declared.store.answer.{Kind.{Kind, TheVariants.{File}}, Name.{Name}}}
+use Rattle.cacache_core.proofs.JoinedNames.{split-append, split_none}
+use Rattle.cacache_core.specs.{declared.errors.Fault.{Fault, TheVariants.{Device, NotADirectory}}, Paths.{Names, is_above, ends_name, IsProperName}}
+use Rattle.cacache_store.specs.{Plain.{PlainAnswer}, declared.store.answer.{Kind.{Kind}, Name.{Name}}}
 use Rattle.cacache_store.specs.declared.store.step.Step.TheVariants as steps
 use Rattle.cacache_store.specs.declared.store.answer.Answer.TheVariants as answers
 use Rattle.cacache_disk.specs.{declared.{luck.Luck.TheVariants.{Plain}, node.Node.{Node}}, Tree.{Tree, look, listing}, LedTo.{standing, folder}, Apply.{apply, unless, fault_told}}
-use Rattle.cacache_system.specs.{declared.call.{SystemCall.{SystemCall}, CallItem.{CallItem}, CallResult.{CallResult}}, ListedNames.{text_of, is_proper, is_passed, names_in, with_slash}, CallsOf.{Stage, Reader, over, taking_memory, opening_folder, following, unopened, is_no_folder, interrupts, reading_names, asking_kind, reader, read_once, more_names, entered, ask_kind, next_name, names_read, broken_off, after, Ends, Runs}, AnswersOf.{list, misses}}
+use Rattle.cacache_system.specs.{declared.call.{SystemCall.{SystemCall}, CallItem.{CallItem}, CallResult.{CallResult}}, Seen.{is_proper, is_passed, names_in, with_slash}, CallsOf.{Stage, Reader, over, taking_memory, opening_folder, following, unopened, is_no_folder, interrupts, reading_names, asking_kind, reader, read_once, more_names, entered, ask_kind, next_name, names_read, broken_off, after, Ends, Runs}, AnswersOf.{list, misses}}
 use Rattle.cacache_system.specs.declared.call.SystemCall.TheVariants as asks
 use Rattle.cacache_system.specs.declared.call.CallResult.TheVariants as says
 use Rattle.cacache_system_model.specs.{Machine.{Machine, IsRefused, ShowsNode, ShowsEnd, Describes}, Folders.{IsDots, GivesNames, ended, OpensNames, OpensFolder, ReadsSome, ReadsFolder}, Calls.{EachCall}, Laws.{outcome, Leads, IsDone, IsLucky}, Listing.{IsPlainEntry, ListsPlainly, Lists, IsListed, IsListedOrLucky, GivesInOrder, ReadDirGoesPlainly, ReadDirBreaks, ReadDirInOrder}}
-use Rattle.cacache_system_model.proofs.{Leading.{Claim, over_leads, call_leads}, Refused.{broken_agrees}, Claims.{way_of, cases_of, taking_leads}, Steps.{Opening.{of_some}, CopyFacts.{not_absent}}}
+use Rattle.cacache_system_model.proofs.{Leading.{Claim, over_leads, call_leads}, Refusing.{broken_agrees}, Claims.{way_of, cases_of, taking_leads}, Steps.{Opening.{of_some}, CopyFacts.{not_absent}}}
 
 -- what a listing's calls come to: if none fails without cause, and if some may
 abbrev ListClaim : Bool → Machine → List ℕ → Claim
@@ -31,39 +31,31 @@ no_nul (x ∷ xs) is =
 
 proper_is : (name : List ℕ) → IsProperName name → is_proper name ≡ true
 unfolding is_proper
-proper_is name (a, b, c) =
-    ap (λ (x : Bool). x && (not (is_above name) && not (list_any ends_name name))) a
-    ∙ ap (λ (x : Bool). not x && not (list_any ends_name name)) b ∙ ap (λ (x : Bool). not x) c
+proper_is name (a, b, c) = search rules
 
 proper_stays : (name : List ℕ) → IsProperName name → is_passed name ≡ false
 proper_stays name (a, b, c) = ap (λ (x : Bool). not x || is_above name) a ∙ b
 
 dots_pass : (name : List ℕ) → IsDots name → is_passed name ≡ true
-dots_pass name (inl is) = ap is_passed is
-dots_pass name (inr is) = ap is_passed is
+dots_pass name which = grind (arith, common_steps)
 
 dots_fine : (name : List ℕ) → IsDots name → list_any (λ b. b == 0) name ≡ false
-dots_fine name (inl is) = ap (list_any (λ b. b == 0)) is
-dots_fine name (inr is) = ap (list_any (λ b. b == 0)) is
+dots_fine name which = grind (arith, common_steps)
 
 one_name : (name : List ℕ) → list_any (λ b. b == 0) name ≡ false → names_in name ≡ name ∷ []
 one_name name none = split_none (λ b. b == 0) name none
 
 first_name : (name rest : List ℕ) → list_any (λ b. b == 0) name ≡ false → names_in (name ++ 0 ∷ rest) ≡ name ∷ names_in rest
-first_name name rest none =
-    split-append (λ b. b == 0) name 0 rest refl ∙ ap (λ (l : List (List ℕ)). l ++ names_in rest) (one_name name none)
+first_name name rest none = search (rules, split-append, one_name)
 
 not_zero : (n : ℕ) → n ≢ 0 → (n == 0) ≡ false
 not_zero n some = ne_eqb n 0 some
 
 not_broken : (why : ErrorKind) → misses why ≡ false → broken_off why ≡ why
-not_broken kind.NotFound fine = absurd (let wrong : true ≡ false = fine in cc)
-not_broken _ fine = refl
+not_broken why fine = grind (arith, common_steps)
 
 names_same : (result : CallResult) (again : Bool) (r : Reader) (found : List Name) → after (reading_names again r found) result ≡ after (reading_names true r found) result
-names_same (says.Failed why) again r found = refl
-names_same (says.Bytes bytes) again r found = refl
-names_same _ again r found = refl
+names_same result again r found = grind (arith, common_steps)
 
 module _ (b : Bool) (m : Machine) (path : List ℕ) (names : Names) (done : b ≡ false → IsDone m (steps.ReadDir path)) where
   abbrev Goes : Stage → Machine → Type 0
@@ -82,11 +74,7 @@ module _ (b : Bool) (m : Machine) (path : List ℕ) (names : Names) (done : b �
       subst (λ (c : Bool). ListClaim c m path (says.Failed why) n) (sym broke) (inr (broken_agrees (steps.ReadDir path) why (says.Failed why) m n refl fine tree (done broke)))
 
   claim_memory : (n : Machine) → n.tree ≡ m.tree → ListClaim b m path (says.Failed kind.OutOfMemory) n
-  claim_memory n tree =
-      elim b as (λ b. (b ≡ false → IsDone m (steps.ReadDir path)) → ListClaim b m path (says.Failed kind.OutOfMemory) n) [
-        | true ↦ λ done enough few. absurd (enough refl)
-        | false ↦ λ done. inr (broken_agrees (steps.ReadDir path) kind.OutOfMemory (says.Failed kind.OutOfMemory) m n refl refl tree (done refl))
-      ] done
+  claim_memory n tree = search (rules, broken_agrees)
 
   claim_large : (n : Machine) → n.tree ≡ m.tree → ListClaim b m path (says.Failed kind.FileTooLarge) n
   claim_large n tree =
@@ -118,18 +106,11 @@ module _ (b : Bool) (m : Machine) (path : List ℕ) (names : Names) (done : b �
 
   asked_is : (r : Reader) (e : Name) (ns : List (List ℕ)) (found : List Name) → r.folder ≡ with_slash path → IsPlainEntry m.tree path names e
       → taking_memory (asking_kind r e.name ns found) ≡ next_name r (e.name ∷ ns) found
-  asked_is r e ns found at plain =
-      sym (ap (λ (c : Bool). if c then next_name r ns found else taking_memory (ask_kind r e.name ns found (going r ns found))) (proper_stays e.name plain.proper)
-      ∙ ap (λ (c : Bool). taking_memory (if c then asking_kind r e.name ns found else entered e.name File (going r ns found)))
-      (ap (λ (f : List ℕ). is_utf8 (f ++ e.name)) at ∙ plain.text))
+  asked_is r e ns found at plain = search (rules, proper_stays)
 
   entered_is : (r : Reader) (e : Name) (ns : List (List ℕ)) (found : List Name) (what : Kind) → IsPlainEntry m.tree path names e → what ≡ e.kind
       → taking_memory (next_name r ns (found ++ e ∷ [])) ≡ entered e.name what (going r ns found)
-  entered_is r e ns found what plain is =
-      sym (ap (λ (c : Bool). taking_memory (if c then going r ns found (record { name = text_of e.name; kind = what }) else over (says.Failed kind.InvalidFilename)))
-      (ap is_proper plain.told ∙ proper_is e.name plain.proper)
-      ∙ ap (λ (t : List ℕ). taking_memory (going r ns found (record { name = t; kind = what }))) plain.told
-      ∙ ap (λ (k : Kind). taking_memory (going r ns found (record { name = e.name; kind = k }))) is)
+  entered_is r e ns found what plain is = search (rules, proper_is)
 
   shown_leads : (r : Reader) (e : Name) (ns : List (List ℕ)) (found : List Name) (n k : Machine) (said : CallResult) → r.folder ≡ with_slash path
       → IsPlainEntry m.tree path names e → n.tree ≡ m.tree → Goes (next_name r ns (found ++ e ∷ [])) n → ShowsEnd (standing n.tree (r.folder ++ e.name)) n said k
@@ -148,10 +129,7 @@ module _ (b : Bool) (m : Machine) (path : List ℕ) (names : Names) (done : b �
 
   asks_fails : (r : Reader) (e : Name) (ns : List (List ℕ)) (found : List Name) (n k : Machine) (said : CallResult) (why : ErrorKind) → n.tree ≡ m.tree
       → b ≡ false → said ≡ says.Failed why → misses why ≡ false → k ≡ n → Goes (after (asking_kind r e.name ns found) said) k
-  asks_fails r e ns found n k said why tree broke same fine stays =
-      subst (λ (result : CallResult). Goes (after (asking_kind r e.name ns found) result) k) (sym same)
-      (subst (λ (c : Bool). Goes (if c then next_name r ns found else over (says.Failed why)) k) (sym (not_absent why fine))
-      (broken_leads why k broke fine (ap (λ (x : Machine). x.tree) stays ∙ tree)))
+  asks_fails r e ns found n k said why tree broke same fine stays = search (rules, not_absent, broken_leads)
 
   -- an entry is asked for and listed
   entry_leads : (r : Reader) (e : Name) (ns : List (List ℕ)) (found : List Name) (n : Machine) → r.folder ≡ with_slash path → IsPlainEntry m.tree path names e → n.tree ≡ m.tree
@@ -189,9 +167,7 @@ module _ (b : Bool) (m : Machine) (path : List ℕ) (names : Names) (done : b �
   Ordered = (folder m.tree path ≡ Ok names) × IsPermutation (listing m.tree names) (m.order names)
 
   listed_so : (found : List Name) (n : Machine) → Ordered → n.tree ≡ m.tree → found ≡ m.order names → ListClaim b m path (says.Names found) n
-  listed_so found n (is, order) tree same =
-      claim_same (says.Names found) n
-      (names, is, order, ap (λ (l : List Name). outcome (answers.Names l) m.tree) (sym same) ∙ ap (λ (t : Tree). outcome (answers.Names found) t) (sym tree))
+  listed_so found n (is, order) tree same = search (rules, claim_same)
 
   abbrev read_if : Bool → Reader → List ℕ → List Name → Stage
   read_if c r bytes found = if c then taking_memory (over (says.Names found)) else next_name (read_once r) (names_in bytes) found
@@ -216,18 +192,14 @@ module _ (b : Bool) (m : Machine) (path : List ℕ) (names : Names) (done : b �
       → ListClaim b m path (says.Failed (broken_off why)) next
       → (Runs (reading_names true r found) items end → EachCall (way_of b) n items last → ListClaim b m path end last)
       → Runs (if interrupts why then reading_names true r found else over (says.Failed (broken_off why))) items end → EachCall (way_of b) next items last → ListClaim b m path end last
-  broke_on true why r found n next last items end is stays holds again runs each =
-      again (subst (λ (c : Bool). Runs (if c then reading_names true r found else over (says.Failed (broken_off why))) items end) is runs)
-      (subst (λ (x : Machine). EachCall (way_of b) x items last) stays each)
+  broke_on true why r found n next last items end is stays holds again runs each = search (rules, way_of)
   broke_on false why r found n next last items end is stays holds again runs each =
       over_leads (way_of b) (says.Failed (broken_off why)) next (ListClaim b m path) holds items end last
       (subst (λ (c : Bool). Runs (if c then reading_names true r found else over (says.Failed (broken_off why))) items end) is runs) each
 
   ends_reading : (again : Bool) (r : Reader) (found : List Name) (end : CallResult) (n : Machine) → (again ≡ true → b ≡ false) → n.tree ≡ m.tree → Ends (reading_names again r found) end
       → ListClaim b m path end n
-  ends_reading true r found end n broke tree ends =
-      subst (λ (e : CallResult). ListClaim b m path e n) (sym ends) (claim_broken kind.Interrupted n (broke refl) refl tree)
-  ends_reading false r found end n broke tree ends = absurd ends
+  ends_reading again r found end n broke tree ends = grind (arith, claim_broken)
 
   -- names are read until no signal interrupts it
   reading_on : (again : Bool) (r : Reader) (found : List Name) (n : Machine) → (again ≡ true → b ≡ false) → n.tree ≡ m.tree
@@ -302,12 +274,7 @@ module _ (b : Bool) (m : Machine) (path : List ℕ) (p : ListsPlainly m.tree pat
       (cases_of b m (asks.OpenFolder (with_slash path)) said k happens))
 
   unopened_leads : (c : Bool) (why : ErrorKind) (k : Machine) → is_no_folder why ≡ c → b ≡ false → misses why ≡ false → k ≡ m → Goes_on (unopened why path) k
-  unopened_leads c why k is broke fine stays =
-      subst (λ (x : Bool). Goes_on (if x then following path else over (says.Failed why)) k) (sym is)
-      (elim c as (λ c. Goes_on (if c then following path else over (says.Failed why)) k) [
-        | true ↦ subst (λ (x : Machine). Goes_on (following path) x) (sym stays) follows
-        | false ↦ broken_leads b m path p.names done why k broke fine (ap (λ (x : Machine). x.tree) stays)
-      ])
+  unopened_leads c why k is broke fine stays = search (rules, follows, broken_leads)
 
   opens_so : Goes_on (opening_folder path) m
   opens_so =
@@ -320,9 +287,7 @@ module _ (b : Bool) (m : Machine) (path : List ℕ) (p : ListsPlainly m.tree pat
       (cases_of b m (asks.OpenFolder path) said k happens))
 
   lists_so : Goes_on (list path) m
-  lists_so =
-      subst (λ (c : Bool). Goes_on (if c then over (says.Failed kind.NotFound) else taking_memory (opening_folder path)) m) (sym p.some)
-      (taking b m path p.names done (opening_folder path) m refl opens_so)
+  lists_so = search (rules, taking, opens_so)
 
 -- the disk's line of a listing
 pub listed_apply : (t : Tree) (path : List ℕ) (names : Names) → folder t path ≡ Ok names → apply t (steps.ReadDir path) Plain ≡ outcome (answers.Names (listing t names)) t
@@ -339,9 +304,7 @@ read_dir_breaks m hint path p =
 -- ---- names in the tree's order
 
 ordered_lucky : (m n : Machine) (path : List ℕ) (end : CallResult) → GivesInOrder m path → IsListedOrLucky m path end n → IsLucky m (steps.ReadDir path) end n
-ordered_lucky m n path end ordered (inl (names, is, order, listed)) =
-    inl (Plain, listed_apply m.tree path names is ∙ ap (λ (l : List Name). outcome (answers.Names l) m.tree) (sym (ordered names is)) ∙ listed)
-ordered_lucky m n path end ordered (inr lucky) = lucky
+ordered_lucky m n path end ordered which = grind (arith, listed_apply)
 
 pub read_dir_in_order : ReadDirInOrder
 read_dir_in_order m hint path p ordered done items end n runs each =

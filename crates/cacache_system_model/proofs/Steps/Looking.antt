@@ -1,25 +1,24 @@
 -- Steps that open a file or ask for its size.
-use Rattle.std.proofs.Common.{◌≡◌, ℕ, Bool, false, List, [], refl, sym, ap, subst, ◌∙◌, ⊎_elim, length, drop}
+use Rattle.std.proofs.Common.{rules, ◌≡◌, ℕ, Bool, false, List, [], refl, sym, ap, subst, ◌∙◌, ⊎_elim, length, drop}
 use Rattle.std.specs.{Prelude.{Option, Some, Result, Ok, Err, option_map}, Option.{unwrap_or}}
 use Rattle.std_io.specs.declared.io.kind.ErrorKind.{ErrorKind}
 use Rattle.std_io.specs.declared.io.kind.ErrorKind.TheVariants as kind
-use Rattle.cacache_core.specs.{Contexts.{fault_of}, declared.errors.Fault.{Fault, TheVariants.{IsADirectory}}, PathNames.{Names}}
+use Rattle.cacache_core.specs.{Errors.{fault_of}, declared.errors.Fault.{Fault, TheVariants.{IsADirectory}}, Paths.{Names}}
 use Rattle.cacache_store.specs.{declared.store.answer.Kind.{Kind}, Plain.{PlainAnswer}}
 use Rattle.cacache_store.specs.declared.store.answer.Kind.TheVariants as kinds
 use Rattle.cacache_store.specs.declared.store.step.Step.TheVariants as steps
 use Rattle.cacache_store.specs.declared.store.answer.Answer.TheVariants as answers
 use Rattle.cacache_disk.specs.{declared.{luck.Luck.TheVariants.{Plain}, node.Node.{Node, TheVariants.{Folder, File, Link}}}, Tree.{Tree, look, bytes_of}, LedTo.{found, file_at, leads}, Apply.{apply, unless}}
-use Rattle.cacache_system.specs.{declared.call.{FileInfo.{FileInfo}, CallResult.{CallResult}}, CallsOf.{Stage, to_give, over, opening, sizing, unless_folder, opened, after}, Seen.{NumberedStep}, AnswersOf.{answer_of, failed_with, refuses_memory}}
+use Rattle.cacache_system.specs.{declared.call.{FileInfo.{FileInfo}, CallResult.{CallResult}}, CallsOf.{Stage, to_give, over, sizing, unless_folder, opened, after}, Seen.{NumberedStep}, AnswersOf.{answer_of, failed_with, refuses_memory}}
 use Rattle.cacache_system.specs.declared.call.SystemCall.TheVariants as asks
 use Rattle.cacache_system.specs.declared.call.CallResult.TheVariants as says
-use Rattle.cacache_system_model.specs.{Machine.{Machine, IsRefused, ShowsEnd, ShowsNode, Describes}, Laws.{answer_on, left_in, outcome, led_to, Leads, IsDone}, Opening.{OpenAgrees, SizeAgrees}}
-use Rattle.cacache_system_model.proofs.{Refused.{same_outcome, failed, refused_on}, Leading.{Claim, over_leads, call_leads}, Claims.{way_of, claim_of, cases_of, agrees_of, taking_leads, claim_plain, claim_broken, claim_memory}, Steps.Opening.{OpenedOn, Openings, opening_leads, said_leads, of_some}, Views.{View, nowhere, a_folder, a_file, view}}
+use Rattle.cacache_system_model.specs.{Machine.{Machine, IsRefused, ShowsEnd, ShowsNode, Describes}, Laws.{left_in, outcome, led_to, Leads, IsDone}, StepLaws.{OpenAgrees, SizeAgrees}}
+use Rattle.cacache_system_model.proofs.{Refusing.{same_outcome, failed, refused_on}, Leading.{Claim, over_leads, call_leads}, Claims.{way_of, claim_of, cases_of, agrees_of, taking_leads, claim_plain, claim_broken, claim_memory}, Steps.Opening.{OpenedOn, Openings, opening_leads, said_leads, of_some}, Views.{View, nowhere, a_folder, a_file, view}}
 
 -- a step that fails in the disk's table fails with the error that a call says
 pub table_fails : (step : NumberedStep) (fault : Fault) (why : ErrorKind) (m n : Machine) → answer_of step (says.Failed why) ≡ failed_with step why → fault_of why ≡ fault → refuses_memory why ≡ false → n.tree ≡ m.tree
     → outcome (failed fault) m.tree ≡ led_to step (says.Failed why) n
-table_fails step fault why m n same of memory stays =
-    sym (same_outcome (answer_on n (answer_of step (says.Failed why))) (failed fault) n.tree m.tree (ap (answer_on n) same ∙ refused_on step why n memory ∙ ap failed of) stays)
+table_fails step fault why m n same of memory stays = search (rules, same_outcome, failed, refused_on)
 
 -- if a file is wanted, the fault is the path's, or the one for a folder
 pub no_file : (t : Tree) (path : List ℕ) (what fault : Fault) → found t path ≡ Err fault → file_at t path what ≡ Err fault
@@ -53,8 +52,7 @@ link_there t path names target is at = elim (view t path) as (λ v. ⊥) [
 
 -- a folder that isn't wanted
 pub refused_folder : (b : Bool) (k : Kind) (s : Stage) (n : Machine) (P : Claim) → k ≡ kinds.Folder → P (says.Failed kind.IsADirectory) n → Leads (way_of b) (unless_folder k s) n P
-refused_folder b k s n P is holds =
-    subst (λ (x : Kind). Leads (way_of b) (unless_folder x s) n P) (sym is) (over_leads (way_of b) (says.Failed kind.IsADirectory) n P holds)
+refused_folder b k s n P is holds = search (rules, way_of, over_leads)
 
 -- what is no folder
 pub wanted_file : (b : Bool) (k : Kind) (s : Stage) (n : Machine) (P : Claim) → k ≡ kinds.File → Leads (way_of b) s n P → Leads (way_of b) (unless_folder k s) n P
@@ -98,9 +96,7 @@ open_openings b m path done = record {
 }
 
 pub open_agrees : OpenAgrees
-open_agrees m hint path = agrees_of m hint (steps.Open path) (λ b done.
-    taking_leads (way_of b) (opening to_give path) m (claim_of b m (steps.Open path)) (claim_memory b m (steps.Open path) done m refl refl)
-    (opening_leads b m to_give path (claim_of b m (steps.Open path)) (open_openings b m path done)))
+open_agrees m hint path = search (rules, agrees_of, taking_leads, way_of, claim_of, claim_memory, opening_leads, open_openings)
 
 -- ---- a file's size is asked for
 
@@ -125,10 +121,7 @@ module _ (b : Bool) (m : Machine) (path : List ℕ) (done : b ≡ false → IsDo
 
   size_shown : (names : Names) (node : Node) (said : CallResult) (n : Machine) → found m.tree path ≡ Ok names → look m.tree names ≡ Some node → ShowsNode names m said n
       → Leads (way_of b) (after (sizing path) said) n (claim_of b m (steps.Size path))
-  size_shown names node said n is stands (info, same, fits, stays) =
-      said_leads b (sizing path) said (says.Info info) n (claim_of b m (steps.Size path)) same
-      (subst (λ (x : Machine). Leads (way_of b) (unless_folder info.kind (over (says.Info info))) x (claim_of b m (steps.Size path))) (sym stays)
-      (size_node names node info is stands (of_some (look m.tree names) node (λ x. Describes x (m.inodes names) info) stands fits)))
+  size_shown names node said n is stands (info, same, fits, stays) = search (rules, said_leads, claim_of, way_of, size_node, of_some)
 
   size_found : (v : View m.tree path) (said : CallResult) (n : Machine) → ShowsEnd (found m.tree path) m said n → Leads (way_of b) (after (sizing path) said) n (claim_of b m (steps.Size path))
   size_found (nowhere fault is file) said n shows =

@@ -2,14 +2,14 @@
 use Rattle.std.proofs.Common.{◌≡◌, ℕ, Bool, true, false, if◌then◌else◌, List, [], refl, sym, ap, subst, ◌∙◌, ⊎_elim}
 use Rattle.std.specs.Prelude.{Option, Some, Result, Ok, Err, MatchResult, option_map}
 use Rattle.std_io.specs.declared.io.kind.ErrorKind.{ErrorKind}
-use Rattle.cacache_core.specs.{declared.errors.Fault.{Fault, TheVariants.{NotFound}}, PathNames.{Names}}
+use Rattle.cacache_core.specs.{declared.errors.Fault.{Fault, TheVariants.{NotFound}}, Paths.{Names}}
 use Rattle.cacache_store.specs.declared.store.step.Step.TheVariants as steps
 use Rattle.cacache_store.specs.Plain.{PlainAnswer}
 use Rattle.cacache_disk.specs.{declared.{luck.Luck.TheVariants.{Plain}, node.Node.{Node, TheVariants.{File}}}, Tree.{Tree, look, bytes_of}, LedTo.{and_then, place, standing, found, way_fault, where_there}, Apply.{apply}}
-use Rattle.cacache_system.specs.{declared.call.{FileInfo.{FileInfo}, SystemCall.{SystemCall}, CallResult.{CallResult}}, CallsOf.{Stage, over, only, preparing, keeping, give, give_mode, sync_again, after}, Seen.{NumberedTemp}, AnswersOf.{Hint, no_hint, is_missing, rewrites, persist, misses}}
+use Rattle.cacache_system.specs.{declared.call.{FileInfo.{FileInfo}, SystemCall.{SystemCall}, CallResult.{CallResult}}, CallsOf.{Stage, over, only, preparing, keeping, give, give_mode, sync_again, after}, Seen.{NumberedTemp}, AnswersOf.{Hint, rewrites, persist, misses}}
 use Rattle.cacache_system.specs.declared.call.SystemCall.TheVariants as asks
 use Rattle.cacache_system.specs.declared.call.CallResult.TheVariants as says
-use Rattle.cacache_system_model.specs.{Machine.{under, OpenFile, node_of, Machine, with_sync, fixes, Became, ShowsEnd, GivesOwner}, Calls.{GoesWell, LeavesPart}, Laws.{Leads, IsDone}, OneCall.{StillStands}, Moving.{LeadsOrMisses, MayReplace, PersistAgrees}}
+use Rattle.cacache_system_model.specs.{Machine.{under, OpenFile, node_of, Machine, with_sync, fixes, Became, ShowsEnd, GivesOwner}, Calls.{GoesWell, LeavesPart}, Laws.{Leads, IsDone}, StepLaws.{StillStands, LeadsOrMisses, MayReplace, PersistAgrees}}
 use Rattle.cacache_system_model.proofs.{Leading.{Claim, over_leads, call_leads, only_leads}, Claims.{way_of, claim_of, cases_of, agrees_of, claim_plain, claim_broken}, Steps.{Opening.{said_leads, open_of}, CopyFacts.{not_absent, fault_absent}, Changing.{put_away}}, memory.Places.{place_led}}
 
 -- the same stands, and the same files are open
@@ -138,9 +138,8 @@ module _ (b : Bool) (m : Machine) (temp : NumberedTemp) (path : List ℕ) (names
       (cases_of b m (asks.Stat path) said n happens))
 
   puts : (hint : Hint) → MayReplace m.tree hint path → Leads (way_of b) (persist hint temp path) m put_claim
-  puts no_hint may = moves m (record { tree = refl; files = refl })
-  puts is_missing may = moves m (record { tree = refl; files = refl })
   puts (rewrites c) leads = keeps c (only (asks.Rename temp.path path)) leads (λ l same. moves l same)
+  puts hint may = moves m (record { tree = refl; files = refl })
 
 -- a temporary file is put
 pub persist_agrees : PersistAgrees

@@ -6,7 +6,7 @@ use Rattle.cacache_disk.specs.{declared.luck.Luck.{Luck, TheVariants.{Plain, Fai
 use Rattle.cacache_system.specs.{declared.call.{SystemCall.{SystemCall}, CallResult.{CallResult}}, CallsOf.{Stage, over, wants, after, Ends}, Seen.{NumberedStep}, AnswersOf.{Hint, first, answer_of, failed_with, misses}}
 use Rattle.cacache_system.specs.declared.call.CallResult.TheVariants as says
 use Rattle.cacache_system_model.specs.{Machine.{Machine}, Calls.{GoesWell, Occurs, OccursSomehow, LeavesPart}, Laws.{step_on, led_to, Leads, IsPlain, IsDone, IsLucky, LeavesFresh, Agrees}}
-use Rattle.cacache_system_model.proofs.{Leading.{over_leads, call_leads}, Refused.{broken_agrees}}
+use Rattle.cacache_system_model.proofs.{Leading.{over_leads, call_leads}, Refusing.{broken_agrees}}
 
 -- A stage with one call. It moves no bytes, and a failure gets the usual answer.
 pub record OneCall (m : Machine) (step : NumberedStep) (s : Stage) (call : SystemCall) : Type 0 where

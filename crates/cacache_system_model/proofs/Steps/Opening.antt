@@ -2,7 +2,7 @@
 use Rattle.std.proofs.Common.{◌≡◌, ◌==◌, ℕ, Bool, true, false, cond, List, refl, sym, ap, subst, ◌∙◌, ⊎_elim, eq-eqb}
 use Rattle.std.specs.Prelude.{Option, None, Some, option_map, Result, Ok, Err, MatchOption, IfSome, IfNone}
 use Rattle.std_io.specs.declared.io.kind.ErrorKind.{ErrorKind}
-use Rattle.cacache_core.specs.{Contexts.{fault_of}, declared.errors.Fault.{Fault, TheVariants.{Device}}, PathNames.{Names}}
+use Rattle.cacache_core.specs.{Errors.{fault_of}, declared.errors.Fault.{Fault, TheVariants.{Device}}, Paths.{Names}}
 use Rattle.cacache_disk.specs.{declared.node.Node.{Node, TheVariants.{Folder, File}}, Tree.{Tree, look}, LedTo.{found}}
 use Rattle.cacache_system.specs.{declared.call.{FileInfo.{FileInfo}, CallResult.{CallResult}}, CallsOf.{Stage, Purpose, over, opening, checking, opened, wants, after, Ends}, AnswersOf.{misses, refuses_memory}}
 use Rattle.cacache_system.specs.declared.call.SystemCall.TheVariants as asks

@@ -1,5 +1,5 @@
 -- Reads of open files, and files that are read whole.
-use Rattle.std.proofs.Common.{◌≡◌, ◌≤◌, ◌<◌, ◌+◌, ◌-◌, ◌==◌, ◌&&◌, not, ℕ, zero, suc, min, max, Bool, true, false, if◌then◌else◌, List, [], ◌⊎◌, length, take, drop, refl, sym, ap, subst, ◌∙◌, ⊎_elim, inl, inr, arith, drop_of_length-le, length-take, length-drop, drop-drop, eqb-true, eq-eqb, true≢false}
+use Rattle.std.proofs.{lemmas.Grind.{common_steps}, Common.{rules, ◌≡◌, ◌≤◌, ◌<◌, ◌+◌, ◌-◌, ◌==◌, ◌&&◌, not, ℕ, zero, suc, min, max, Bool, true, false, if◌then◌else◌, List, [], ◌⊎◌, length, take, drop, refl, sym, ap, subst, ◌∙◌, ⊎_elim, inl, inr, arith, drop_of_length-le, length-take, length-drop, drop-drop, eqb-true, eq-eqb, true≢false}}
 use Rattle.std.specs.{Prelude.{Option, None, Some, option_map}, Option.{unwrap_or}}
 use Rattle.std_io.specs.declared.io.kind.ErrorKind.TheVariants as kind
 use Rattle.cacache_core.specs.declared.errors.Fault.TheVariants.{Closed}
@@ -8,17 +8,16 @@ use Rattle.cacache_store.specs.declared.store.answer.Answer.TheVariants as answe
 use Rattle.cacache_store.specs.Plain.{PlainAnswer}
 use Rattle.cacache_disk.specs.{declared.{luck.Luck.TheVariants.{Plain, Take}, node.Node.{Node}}, Tree.{Tree, bytes_of}, Apply.{apply, readable, given, rest_of}}
 use Rattle.cacache_system.specs.declared.call.SystemCall.TheVariants as asks
-use Rattle.cacache_system.specs.{declared.call.CallResult.{CallResult}, CallsOf.{over, trying, taking_memory}, Seen.{NumberedFile}, AnswersOf.{read_piece}}
+use Rattle.cacache_system.specs.{declared.call.CallResult.{CallResult}, CallsOf.{trying, taking_memory}, Seen.{NumberedFile}, AnswersOf.{read_piece}}
 use Rattle.cacache_system.specs.declared.call.CallResult.TheVariants as says
-use Rattle.cacache_system_model.specs.{Machine.{OpenFile, node_of, Machine, ReadsFile, Gives, with_file}, Laws.{left_in, step_on, outcome, led_to, Leads, IsDone}, Reading.{StaysOpen, ReadBreaks, PiecesReadPlainly}}
-use Rattle.cacache_system_model.proofs.{Refused.{same_outcome, broken_agrees}, Leading.{Claim, over_leads, trying_leads}, Claims.{way_of, claim_of, Well, taking_leads, claim_broken, claim_memory}, Trying.{SaidWell, tried_so}, Steps.Opening.{newly_open, on_open, same_number}}
+use Rattle.cacache_system_model.specs.{Machine.{OpenFile, node_of, Machine, ReadsFile, Gives, with_file}, Laws.{left_in, step_on, outcome, led_to, Leads, IsDone}, StepLaws.{StaysOpen, ReadBreaks, PiecesReadPlainly}}
+use Rattle.cacache_system_model.proofs.{Refusing.{same_outcome, broken_agrees}, Leading.{Claim, over_leads, trying_leads}, Claims.{way_of, claim_of, Well, taking_leads, claim_broken, claim_memory}, Trying.{SaidWell, tried_so}, Steps.Opening.{newly_open, on_open, same_number}}
 use Rattle.cacache_history.proofs.Contents.OpenedContents.{some_readable}
 
 -- ---- counts
 
 readable_within : (most : Option ℕ) (size : ℕ) → readable most size ≤ size
-readable_within None size = omega arith
-readable_within (Some q) size = omega arith
+readable_within most size = grind (arith, common_steps)
 
 pub either : (k n : ℕ) → (k ≤ n) ⊎ (n ≤ k)
 either zero n = inl (omega arith)
@@ -26,8 +25,7 @@ either (suc k) zero = inr (omega arith)
 either (suc k) (suc n) = ⊎_elim (λ (l : k ≤ n). inl (omega arith)) (λ (l : n ≤ k). inr (omega arith)) (either k n)
 
 zero_or : (n : ℕ) → (n ≡ 0) ⊎ (0 < n)
-zero_or zero = inl refl
-zero_or (suc n) = inr (omega arith)
+zero_or n = grind (arith, common_steps)
 
 -- a part of a piece is what a luck of so many bytes takes
 taken_part : (most : Option ℕ) (size all : ℕ) → size ≤ all → (size ≡ 0 → all ≡ 0) → readable (Some (readable most size)) all ≡ readable most size
@@ -90,25 +88,17 @@ module _ (m : Machine) (file : NumberedFile) (found : OpenFile) (bytes : List �
       (ap (λ (o : Option (List ℕ)). answers.Got (record { left = length (unwrap_or o []); bytes = o }) (take k rest)) is) became.0)
 
   step_bytes : (k : ℕ) → outcome (read_known (option_map (left_in m) (m.files file.number)) k) m.tree ≡ outcome (got (drop k (drop found.read bytes)) (take k (drop found.read bytes))) m.tree
-  step_bytes k =
-      ap (λ (o : Option (List ℕ)). outcome (read_known o k) m.tree) (file_known m file found bytes ready)
-      ∙ ap (λ (a : PlainAnswer). outcome a m.tree) (given_known (drop found.read bytes) k)
+  step_bytes k = search (rules, file_known, given_known)
 
   -- as under plain luck, if all is read
   read_plain : (n : Machine) (k : ℕ) → k ≡ max → Gives file.number found (take k (drop found.read bytes)) m (says.Bytes (take k (drop found.read bytes))) n
       → apply m.tree (step_on m (steps.Read file max)) Plain ≡ led_to (steps.Read file max) (says.Bytes (take k (drop found.read bytes))) n
-  read_plain n k all gives =
-      apply_plain m.tree (option_map (left_in m) (m.files file.number)) max
-      ∙ ap (λ (size : ℕ). outcome (read_known (option_map (left_in m) (m.files file.number)) size) m.tree) (sym all)
-      ∙ step_bytes k ∙ answer_after n k gives
+  read_plain n k all gives = search (rules, apply_plain, step_bytes, answer_after)
 
   -- as under the luck that moves a part
   read_part : (n : Machine) (k : ℕ) → readable (Some k) max ≡ k → Gives file.number found (take k (drop found.read bytes)) m (says.Bytes (take k (drop found.read bytes))) n
       → apply m.tree (step_on m (steps.Read file max)) (Take k) ≡ led_to (steps.Read file max) (says.Bytes (take k (drop found.read bytes))) n
-  read_part n k part gives =
-      apply_take m.tree (option_map (left_in m) (m.files file.number)) max k
-      ∙ ap (λ (size : ℕ). outcome (read_known (option_map (left_in m) (m.files file.number)) size) m.tree) part
-      ∙ step_bytes k ∙ answer_after n k gives
+  read_part n k part gives = search (rules, apply_take, step_bytes, answer_after)
 
 -- what is claimed if a read doesn't fail without cause
 abbrev ReadsWell : Bool → Machine → NumberedFile → OpenFile → List ℕ → ℕ → ℕ → Type 0
@@ -144,16 +134,10 @@ module _ (b : Bool) (m : Machine) (file : NumberedFile) (found : OpenFile) (byte
 -- a read that asks for so many bytes, or that gives no more
 piece_leads : (b c : Bool) (m : Machine) (file : NumberedFile) (size : ℕ) (P : Claim) → (file.left == 0 && not (size == 0)) ≡ c → (c ≡ true → P (says.Failed kind.FileTooLarge) m)
     → (c ≡ false → Leads (way_of b) (taking_memory (trying false (asks.Read file.number (min size file.left)))) m P) → Leads (way_of b) (read_piece file size) m P
-piece_leads b true m file size P is over_now goes_on =
-    subst (λ (x : Bool). Leads (way_of b) (if x then over (says.Failed kind.FileTooLarge) else taking_memory (trying false (asks.Read file.number (min size file.left)))) m P) (sym is)
-    (over_leads (way_of b) (says.Failed kind.FileTooLarge) m P (over_now refl))
-piece_leads b false m file size P is over_now goes_on =
-    subst (λ (x : Bool). Leads (way_of b) (if x then over (says.Failed kind.FileTooLarge) else taking_memory (trying false (asks.Read file.number (min size file.left)))) m P) (sym is) (goes_on refl)
+piece_leads b c m file size P is over_now goes_on = grind (arith, way_of, over_leads)
 
 asked_so : (x y : Bool) (left size : ℕ) → (left == 0) ≡ x → (size == 0) ≡ y → (x && not y) ≡ false → left ≡ 0 → size ≡ 0
-asked_so true true left size l s is none = eqb-true size 0 s
-asked_so true false left size l s is none = absurd cc
-asked_so false y left size l s is none = let zero : (left == 0) ≡ true = eq-eqb left 0 none in absurd cc
+asked_so x y left size l s is none = grind (arith, common_steps)
 
 -- nothing is asked for only if nothing is wanted
 nothing_asked : (left size all : ℕ) → (left == 0 && not (size == 0)) ≡ false → size ≡ min all 131072 → min size left ≡ 0 → all ≡ 0

@@ -6,7 +6,7 @@ use Rattle.cacache_disk.specs.{declared.luck.Luck.TheVariants.{Plain}, Tree.{cut
 use Rattle.cacache_system.specs.{declared.call.{SystemCall.{SystemCall}, CallResult.{CallResult}}, CallsOf.{Stage, only}, Seen.{NumberedStep}, AnswersOf.{Hint, first, answer_of, failed_with}}
 use Rattle.cacache_system.specs.declared.call.SystemCall.TheVariants as asks
 use Rattle.cacache_system.specs.declared.call.CallResult.TheVariants as says
-use Rattle.cacache_system_model.specs.{Machine.{Machine, gone}, Laws.{step_on, led_to, Leads, Agrees}, Calls.{GoesWell, LeavesPart}, Removing.{RemoveFileAgrees, RemoveDirAgrees}}
+use Rattle.cacache_system_model.specs.{Machine.{Machine, gone}, Laws.{step_on, led_to, Leads, Agrees}, Calls.{GoesWell, LeavesPart}, StepLaws.{RemoveFileAgrees, RemoveDirAgrees}}
 use Rattle.cacache_system_model.proofs.{Leading.{only_leads}, Claims.{way_of, claim_of, cases_of, agrees_of, claim_plain, claim_broken}, Steps.Changing.{changed_places}}
 
 -- a removal of this kind

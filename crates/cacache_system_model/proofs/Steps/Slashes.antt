@@ -1,8 +1,8 @@
 -- The names of the path above.
 use Rattle.std.proofs.{Common.{◌≡◌, ◌⊎◌, ◌≤◌, ◌<◌, ◌==◌, ◌||◌, ℕ, zero, suc, Bool, true, false, cond, if◌then◌else◌, List, [], ◌∷◌, ◌++◌, filter, get_or, take, drop, length, refl, sym, ap, subst, ◌∙◌, inl, inr, arith, append-nil, take-append-drop, drop-cons, drop_of_length-le, eqb-true, ne_eqb, length-take, length-append}, lemmas.{List.{Elements.{filter-append}, Folds.{list_any-append}}, Bool.{or_parts}}}
 use Rattle.std.specs.{Prelude.{Option, None, Some, Result, Ok, Err, option_map}, List.{list_any}}
-use Rattle.cacache_core.specs.{declared.errors.Fault.{Fault, TheVariants.{NotFound, InvalidInput}}, PathNames.{Names, names_of, pieces, is_bad, is_above, is_name, ends_name, IsProperName}}
-use Rattle.cacache_core.proofs.Splits.{split-append, split_none}
+use Rattle.cacache_core.specs.{declared.errors.Fault.{Fault, TheVariants.{NotFound, InvalidInput}}, Paths.{Names, names_of, pieces, is_bad, is_above, is_name, ends_name, IsProperName}}
+use Rattle.cacache_core.proofs.JoinedNames.{split-append, split_none}
 use Rattle.cacache_system.specs.CallsOf.{last_slash, above_of, in_folder}
 use Rattle.cacache_system_model.specs.Machine.{EndsInName, behind_slash}
 

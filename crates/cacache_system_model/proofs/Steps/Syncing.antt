@@ -1,18 +1,19 @@
 -- Steps that sync a file or a folder.
-use Rattle.std.{proofs.Common.{◌≡◌, ◌⊎◌, ℕ, Bool, false, List, refl, sym, ap, subst, ◌∙◌, ⊎_elim, inl, inr}, specs.Prelude.{Option, None, Some, Result, Ok, Err, option_map}}
+use Rattle.std.proofs.Common.{rules, ◌≡◌, ◌⊎◌, ℕ, Bool, false, List, refl, sym, ap, subst, ◌∙◌, ⊎_elim, inl, inr}
+use Rattle.std.specs.Prelude.{Option, None, Some, Result, Ok, Err, option_map}
 use Rattle.std_io.specs.declared.io.kind.ErrorKind.{ErrorKind}
 use Rattle.std_io.specs.declared.io.kind.ErrorKind.TheVariants as kind
-use Rattle.cacache_core.specs.{declared.errors.Fault.{Fault, TheVariants.{IsADirectory, NotADirectory}}, PathNames.{Names}}
+use Rattle.cacache_core.specs.{declared.errors.Fault.{Fault, TheVariants.{IsADirectory, NotADirectory}}, Paths.{Names}}
 use Rattle.cacache_store.specs.{declared.store.answer.Kind.{Kind}, Plain.{PlainAnswer}}
 use Rattle.cacache_store.specs.declared.store.answer.Kind.TheVariants as kinds
 use Rattle.cacache_store.specs.declared.store.step.Step.TheVariants as steps
 use Rattle.cacache_store.specs.declared.store.answer.Answer.TheVariants as answers
-use Rattle.cacache_disk.specs.{declared.{luck.Luck.TheVariants.{Plain}, node.Node.{Node, TheVariants.{Folder, File, Link}}}, Tree.{Tree, look, bytes_of}, LedTo.{and_then, found, file_at, folder, where_folder}, Apply.{apply, unless}}
+use Rattle.cacache_disk.specs.{declared.{luck.Luck.TheVariants.{Plain}, node.Node.{Node, TheVariants.{Folder, File, Link}}}, Tree.{Tree, look}, LedTo.{and_then, found, file_at, folder, where_folder}, Apply.{apply, unless}}
 use Rattle.cacache_system.specs.{declared.call.{FileInfo.{FileInfo}, CallResult.{CallResult}}, CallsOf.{Stage, to_sync, to_sync_folder, only, if_folder, opened}, Seen.{NumberedTemp}, AnswersOf.{misses}}
 use Rattle.cacache_system.specs.declared.call.SystemCall.TheVariants as asks
 use Rattle.cacache_system.specs.declared.call.CallResult.TheVariants as says
-use Rattle.cacache_system_model.specs.{Machine.{Place, under, OpenFile, node_of, with_sync, Machine, fixes, Describes, Became}, Calls.{part_synced}, Laws.{bytes_in, temp_on, step_on, outcome, Leads, IsDone}, Syncing.{EndsInNoLink, SyncTempAgrees, SyncFileAgrees, SyncDirAgrees}}
-use Rattle.cacache_system_model.proofs.{Refused.{same_outcome}, Leading.{Claim, over_leads, only_leads}, Claims.{way_of, claim_of, cases_of, agrees_of, claim_plain, claim_broken}, Steps.{Opening.{OpenedOn, Openings, opening_leads, on_open, file_under}, Looking.{table_fails, no_file, file_there, folder_there, link_there, refused_folder, wanted_file}}, Views.{folder_found}}
+use Rattle.cacache_system_model.specs.{Machine.{Place, under, OpenFile, node_of, with_sync, Machine, fixes, Describes, Became}, Calls.{part_synced}, Laws.{bytes_in, temp_on, step_on, outcome, Leads, IsDone}, StepLaws.{EndsInNoLink, SyncTempAgrees, SyncFileAgrees, SyncDirAgrees}}
+use Rattle.cacache_system_model.proofs.{Refusing.{same_outcome}, Leading.{Claim, over_leads, only_leads}, Claims.{way_of, claim_of, cases_of, agrees_of, claim_plain, claim_broken}, Steps.{Opening.{OpenedOn, Openings, opening_leads, on_open, file_under}, Looking.{table_fails, no_file, file_there, folder_there, link_there, refused_folder, wanted_file}}, Views.{folder_found}}
 
 -- an open file was synced
 pub record WasSynced (n l : Machine) (place : Place) : Type 0 where
@@ -85,8 +86,7 @@ unfolding apply
 apply_sync_dir t path r is = ap (λ (x : Result Names Fault). unless x t (λ names. outcome answers.Done t)) is
 
 pub folder_of : (t : Tree) (path : List ℕ) (names : Names) (node : Node) → EndsInNoLink t path → found t path ≡ Ok names → look t names ≡ Some node → folder t path ≡ where_folder (Some node) names
-folder_of t path names node none is stands =
-    folder_found t path none ∙ ap (λ (r : Result Names Fault). and_then r (λ n. where_folder (look t n) n)) is ∙ ap (λ (o : Option Node). where_folder o names) stands
+folder_of t path names node none is stands = search (rules, folder_found)
 
 -- what is no folder
 pub refused_other : (b : Bool) (k : Kind) (why : ErrorKind) (s : Stage) (n : Machine) (P : Claim) → k ≡ kinds.File → P (says.Failed why) n → Leads (way_of b) (if_folder k why s) n P
@@ -129,9 +129,7 @@ abbrev synced_temp : NumberedTemp → Option (List ℕ) → PlainAnswer
 synced_temp temp bytes = answers.Synced (record { path = temp.path; bytes = bytes })
 
 temp_kept : (m l : Machine) (temp : NumberedTemp) → l.tree ≡ m.tree → l.files ≡ m.files → synced_temp temp (option_map (bytes_in l) (l.files temp.number)) ≡ synced_temp temp (option_map (bytes_in m) (m.files temp.number))
-temp_kept m l temp tree files =
-    ap (λ (t : Tree). synced_temp temp (option_map (λ (f : OpenFile). bytes_of (node_of t f.place)) (l.files temp.number))) tree
-    ∙ ap (λ (g : ℕ → Option OpenFile). synced_temp temp (option_map (bytes_in m) (g temp.number))) files
+temp_kept m l temp tree files = search rules
 
 pub sync_temp_agrees : SyncTempAgrees
 sync_temp_agrees m hint temp names bytes ready = agrees_of m hint (steps.SyncTemp temp) (λ b done.

@@ -1,9 +1,9 @@
 -- Files that are read whole.
-use Rattle.std.proofs.Common.{◌≡◌, ◌⊎◌, ◌==◌, ◌+◌, ℕ, min, Bool, true, false, if◌then◌else◌, List, [], ◌∷◌, ◌++◌, length, take, drop, refl, sym, ap, subst, ◌∙◌, ⊎_elim, inl, inr, take-append-drop, zero-add}
+use Rattle.std.proofs.Common.{◌≡◌, ◌⊎◌, ◌==◌, ◌+◌, ℕ, Bool, true, false, if◌then◌else◌, List, [], ◌∷◌, ◌++◌, length, take, drop, refl, sym, ap, subst, ◌∙◌, ⊎_elim, inl, inr, take-append-drop, zero-add}
 use Rattle.std.specs.Prelude.{Option, Some, Result, Ok, Err}
 use Rattle.std_io.specs.declared.io.kind.ErrorKind.{ErrorKind}
 use Rattle.std_io.specs.declared.io.kind.ErrorKind.TheVariants as kind
-use Rattle.cacache_core.specs.{Contexts.{fault_of}, declared.errors.Fault.{Fault, TheVariants.{IsADirectory}}, PathNames.{Names}}
+use Rattle.cacache_core.specs.{Errors.{fault_of}, declared.errors.Fault.{Fault, TheVariants.{IsADirectory}}, Paths.{Names}}
 use Rattle.cacache_store.specs.declared.store.step.Step.TheVariants as steps
 use Rattle.cacache_store.specs.declared.store.answer.Answer.TheVariants as answers
 use Rattle.cacache_store.specs.Plain.{PlainAnswer}
@@ -11,8 +11,8 @@ use Rattle.cacache_disk.specs.{declared.{luck.Luck.TheVariants.{Plain}, node.Nod
 use Rattle.cacache_system.specs.declared.call.SystemCall.TheVariants as asks
 use Rattle.cacache_system.specs.{declared.call.{CallItem.{CallItem}, CallResult.{CallResult}}, CallsOf.{over, taking_memory, opening_whole, reading_front, front_known, measuring, reading_rest, interrupts, after, Ends, Runs}}
 use Rattle.cacache_system.specs.declared.call.CallResult.TheVariants as says
-use Rattle.cacache_system_model.specs.{Machine.{under, OpenFile, node_of, Machine, IsRefused, ReadsFile, ShowsNode, ShowsPlace, unread}, Calls.{EachCall}, Laws.{outcome, Leads, IsDone}, Reading.{ReadAllAgrees}}
-use Rattle.cacache_system_model.proofs.{Refused.{same_outcome}, Leading.{Way, Claim, over_leads, call_leads}, Claims.{way_of, claim_of, cases_of, agrees_of, taking_leads, claim_plain, claim_broken, claim_memory}, Steps.{Opening.{OpenedOn, PathOpens, path_leads, newly_open, said_leads, on_open}, Looking.{table_fails, no_file, file_there, folder_there, link_there}, Reading.{drop_taken}}}
+use Rattle.cacache_system_model.specs.{Machine.{under, OpenFile, node_of, Machine, IsRefused, ReadsFile, ShowsNode, ShowsPlace, unread}, Calls.{EachCall}, Laws.{outcome, Leads, IsDone}, StepLaws.{ReadAllAgrees}}
+use Rattle.cacache_system_model.proofs.{Refusing.{same_outcome}, Leading.{Way, Claim, over_leads, call_leads}, Claims.{way_of, claim_of, cases_of, agrees_of, taking_leads, claim_plain, claim_broken, claim_memory}, Steps.{Opening.{OpenedOn, PathOpens, path_leads, newly_open, said_leads, on_open}, Looking.{table_fails, no_file, file_there, folder_there, link_there}, Reading.{drop_taken}}}
 
 -- What becomes of the first read of a file: it gave the front, it failed, or a signal came and it may be given up.
 abbrev FrontTried : Way → Claim → Machine → ℕ → ℕ → CallResult → Machine → Type 0

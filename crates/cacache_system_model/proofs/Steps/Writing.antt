@@ -4,7 +4,7 @@ use Rattle.std.specs.Prelude.{Option, None, Some, Result, Ok, Err, option_map}
 use Rattle.std.specs.FinMap as map
 use Rattle.std_io.specs.declared.io.kind.ErrorKind.{ErrorKind}
 use Rattle.std_io.specs.declared.io.kind.ErrorKind.TheVariants as kind
-use Rattle.cacache_core.specs.{Contexts.{fault_of}, declared.errors.Fault.{Fault}, PathNames.{Names}}
+use Rattle.cacache_core.specs.{Errors.{fault_of}, declared.errors.Fault.{Fault}, Paths.{Names}}
 use Rattle.cacache_store.specs.declared.store.step.Step.TheVariants as steps
 use Rattle.cacache_store.specs.declared.store.answer.Answer.TheVariants as answers
 use Rattle.cacache_store.specs.Plain.{PlainAnswer}
@@ -13,8 +13,8 @@ use Rattle.cacache_disk.proofs.{Maps.{total, only, put_same}, PutNodes.{look-put
 use Rattle.cacache_system.specs.declared.call.SystemCall.TheVariants as asks
 use Rattle.cacache_system.specs.{declared.call.CallResult.{CallResult}, CallsOf.{trying, appending, interrupts, was_interrupted, after}, Seen.{NumberedTemp}, AnswersOf.{misses, refuses_memory, leaves_a_part}}
 use Rattle.cacache_system.specs.declared.call.CallResult.TheVariants as says
-use Rattle.cacache_system_model.specs.{Machine.{Place, under, OpenFile, node_of, Machine, HasTree, Grows, OpensIf, unread, with_empty}, Calls.{GoesWell, OccursSomehow, did_nothing, PartWritten, part_opened, LeavesWritten, LeavesPart}, Laws.{bytes_in, step_on, outcome, led_to, Leads, IsDone}, Writing.{WritesAll, WritesSome, WriteAgrees}, OneCall.{StillStands}, Removing.{AppendAgrees}}
-use Rattle.cacache_system_model.proofs.{Refused.{same_outcome, failed, refused_on, never_missing, failing_apply, broken_part}, Leading.{over_leads, call_leads, trying_leads}, Claims.{way_of, claim_of, luck_of, Well, cases_of, agrees_of, claim_plain, claim_taken, claim_lucky, claim_broken}, Trying.{SaidWell, tried_so}, Steps.{Opening.{newly_open, said_leads, on_open, file_under}, Looking.{table_fails}}, Views.{leads_no_link}}
+use Rattle.cacache_system_model.specs.{Machine.{Place, under, OpenFile, node_of, Machine, HasTree, Grows, OpensIf, unread, with_empty}, Calls.{GoesWell, OccursSomehow, did_nothing, PartWritten, part_opened, LeavesWritten, LeavesPart}, Laws.{bytes_in, step_on, outcome, led_to, Leads, IsDone}, Writing.{WritesAll, WritesSome, WriteAgrees}, StepLaws.{StillStands, AppendAgrees}}
+use Rattle.cacache_system_model.proofs.{Refusing.{same_outcome, failed, refused_on, never_missing, failing_apply, broken_part}, Leading.{over_leads, call_leads, trying_leads}, Claims.{way_of, claim_of, luck_of, Well, cases_of, agrees_of, claim_plain, claim_taken, claim_lucky, claim_broken}, Trying.{SaidWell, tried_so}, Steps.{Opening.{newly_open, said_leads, on_open, file_under}, Looking.{table_fails}}, Views.{leads_no_link}}
 
 -- ---- trees
 

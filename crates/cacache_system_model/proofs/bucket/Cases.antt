@@ -1,9 +1,9 @@
 -- A read that ends within a line.
 use Rattle.std.proofs.{Common.{◌≡◌, ℕ, false, length, List, [], ◌∷◌, ◌++◌, inr, take, drop, refl, sym, ap, ◌∙◌, append-nil}, lemmas.List.{take-append-drop}}
-use Rattle.cacache_system.specs.{declared.call.CallResult.TheVariants.{Opened, Count, Bytes}, CallLog.{item}, AnswersOf.{no_hint}}
+use Rattle.cacache_system.specs.{declared.call.CallResult.TheVariants.{Opened, Count, Bytes}, Seen.{item}, AnswersOf.{no_hint}}
 use Rattle.cacache_system.specs.declared.call.SystemCall.TheVariants as asks
 use Rattle.cacache_entry.specs.{Entry.{Entry, line_of, closed_line}, Bucket.{entries_of}}
-use Rattle.cacache_value.proofs.AppendedLines.{torn_line}
+use Rattle.cacache_value.proofs.MadeFolders.{torn_line}
 use Rattle.cacache_system_model.specs.bucket.{File.{LineWrite, OpensToAppend, Starts, Shows, Answers, Opens, Reads, Ends, idle}, Calls.{AppendRan, ReadRan}, Cases.{in_parts, TornReadsHappen}}
 use Rattle.cacache_system_model.proofs.bucket.Lookups.{entry_alone}
 

@@ -1,10 +1,10 @@
 -- What a run of a read of a bucket's file has read, and what a run of an append has left for it.
 use Rattle.std.proofs.{Common.{◌≡◌, ◌≤◌, length, length-append, ℕ, Bool, arith, List, [], ◌∷◌, ◌++◌, Some, refl, sym, ap, subst, ◌∙◌, append-nil, append_assoc}, lemmas.List.{take_all}}
 use Rattle.std.specs.List.{AllByRecursion}
-use Rattle.cacache_system.specs.{declared.call.{SystemCall.{SystemCall}, CallItem.{CallItem}, CallResult.{CallResult, TheVariants.{Count, Bytes}}}, CallLog.{item}}
+use Rattle.cacache_system.specs.{declared.call.{SystemCall.{SystemCall}, CallItem.{CallItem}, CallResult.{CallResult, TheVariants.{Count, Bytes}}}, Seen.{item}}
 use Rattle.cacache_system.specs.declared.call.SystemCall.TheVariants as asks
 use Rattle.cacache_entry.specs.{Entry.{Entry, line_of, closing, closed_line}, FittingEntries.{IsEntry, IsWritable}, Bucket.{entries_of}}
-use Rattle.cacache_value.proofs.AppendedLines.{whole_closed}
+use Rattle.cacache_value.proofs.MadeFolders.{whole_closed}
 use Rattle.cacache_system_model.specs.bucket.{File.{LineWrite, BucketFile, Event, Answers, Opens, Ends, bytes_to_write, idle, file_after, Happen, all_completed}, Moments.{HasEntry, answer_to_end}, Calls.{AllFit, said_by, all_said, IsBeforeRest, ReadsToEnd, WritesOnce, Way, Made, ReaderCall, WriterCall, HasReadMore, AppendRan, ReadRan, HasAppended, LookupsSeeMoments, LookupsSeeAnswered}}
 use Rattle.cacache_system_model.proofs.bucket.{Places.{IsPart, idle_sound, part_of, file_after-append, happen-append, sound_after}, Moments.{same_some, reads_are_moments, answered_are_read}, Runs.{appends_write_once, reads_go_to_end}}
 

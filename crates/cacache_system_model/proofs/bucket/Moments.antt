@@ -1,7 +1,7 @@
 -- What readers of a bucket's file read.
 use Rattle.std.proofs.{Common.{◌≡◌, ◌≤◌, ◌⊎◌, inl, inr, length, ℕ, Bool, true, false, nat_le, arith, List, [], ◌∷◌, ◌++◌, Option, None, Some, IfSome, fold, refl, sym, ap, subst, ◌∙◌, append-nil, append_assoc}, lemmas.{List.Sums.{fold-append}, Bool.{leb-true, leb-false}}}
 use Rattle.std.specs.Prelude.{unwrap_or}
-use Rattle.cacache_entry.{specs.{Bucket.{entries_of}, Latest.{after_entry, latest}}, proofs.Lookups.{last_answer_decides}}
+use Rattle.cacache_entry.{specs.Bucket.{entries_of, after_entry, latest}, proofs.Lookups.{last_answer_decides}}
 use Rattle.cacache_system_model.specs.bucket.{File.{IsBeginning, LineWrite, BucketFile, Event, Opens, Ends, idle, next, file_after, Happen, completed, all_completed, whole_entries}, Moments.{EntriesAreWhole, ReadBegins, ReadsAreMoments, BeginningsAreMoments, LaterReadsHaveMore, answer_to_end, AnsweredAreRead}}
 use Rattle.cacache_system_model.proofs.bucket.{Parts.{begins_all, begins_shorter, held_all, part_adds}, Places.{Sound, idle_sound, part_of, read_of, next_sound, next_entries, between, file_after-append, happen-append, all_completed-append, sound_after, entries_after, longer_after}}
 

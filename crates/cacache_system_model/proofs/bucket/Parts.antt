@@ -2,7 +2,7 @@
 use Rattle.std.proofs.{Common.{◌≡◌, ◌≤◌, ◌⊎◌, inl, inr, length, length-append, ℕ, Bool, true, false, if◌then◌else◌, nat_le, arith, List, [], ◌∷◌, ◌++◌, Some, take, drop, refl, sym, ap, ◌∙◌, append-nil, append_assoc}, lemmas.{List.{append_cancel_left, take-append-drop, take-append-le, take_at}, Bool.{le-leb, leb-false, leb-true}}}
 use Rattle.cacache_disk.specs.declared.node.Node.TheVariants.{File}
 use Rattle.cacache_entry.specs.{Entry.{Entry, piece_of, line_of, closing, closed_line}, FittingEntries.{IsEntry, IsWritable}, Bucket.{entries_of}}
-use Rattle.cacache_value.proofs.AppendedLines.{bucket_left, torn_closed, whole_closed}
+use Rattle.cacache_value.proofs.MadeFolders.{bucket_left, torn_closed, whole_closed}
 use Rattle.cacache_system_model.specs.bucket.File.{IsBeginning, LineWrite, held, completed_by}
 
 -- ---- beginnings

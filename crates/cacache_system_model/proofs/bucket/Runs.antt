@@ -2,7 +2,7 @@
 use Rattle.std.proofs.Common.{◌≡◌, inl, inr, length, ℕ, Bool, true, false, if◌then◌else◌, List, [], ◌∷◌, ◌++◌, refl, sym, ap, subst, ◌∙◌, append_assoc, append-nil}
 use Rattle.std.specs.{Prelude.{None, Some, ◌==◌}, List.{AllByRecursion}}
 use Rattle.std_io.specs.declared.io.kind.ErrorKind.{ErrorKind}
-use Rattle.cacache_system.specs.{declared.call.{SystemCall.{SystemCall}, CallItem.{CallItem}, CallResult.{CallResult, TheVariants.{Opened, Count, Bytes, Info, Failed}}}, CallLog.{item}, CallsOf.{Stage, Runs, over, trying, taking_memory, opening_whole, reading_front, measuring, reading_rest, appending, interrupts, was_interrupted, after}}
+use Rattle.cacache_system.specs.{declared.call.{SystemCall.{SystemCall}, CallItem.{CallItem}, CallResult.{CallResult, TheVariants.{Opened, Count, Bytes, Info, Failed}}}, Seen.{item}, CallsOf.{Stage, Runs, over, trying, taking_memory, opening_whole, reading_front, measuring, reading_rest, appending, interrupts, was_interrupted, after}}
 use Rattle.cacache_system.specs.declared.call.SystemCall.TheVariants as asks
 use Rattle.cacache_system_model.specs.bucket.Calls.{FitsCall, AllFit, IsBeforeWrite, WritesOnce, AppendsWriteOnce, said_by, all_said, IsBeforeRest, ReadsGoToEnd}
 

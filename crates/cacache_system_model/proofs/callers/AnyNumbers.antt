@@ -1,11 +1,10 @@
 -- Calls with any numbers that differ, as calls that begin in the order of their numbers.
-use Rattle.std.proofs.{lemmas.Bool.{eqb-true, eqb-false, cases_lt, lt-ltb}, Common.{◌≡◌, ◌⊎◌, inl, inr, ◌≤◌, ◌<◌, ◌+◌, ◌-◌, ◌^◌, ◌==◌, ℕ, zero, suc, Bool, true, false, cond, List, [], ◌∷◌, ◌++◌, Option, None, Some, option_map, refl, sym, ap, subst, ◌∙◌, arith}}
-use Rattle.cacache_core.specs.PathNames.{names_of}
+use Rattle.std.proofs.{lemmas.Bool.{cases_lt, lt-ltb}, Common.{rules, ◌≡◌, ◌⊎◌, inl, inr, ◌≤◌, ◌<◌, ◌+◌, ◌-◌, ◌^◌, ◌==◌, ℕ, zero, suc, Bool, true, false, cond, List, [], ◌∷◌, ◌++◌, Option, None, Some, option_map, refl, sym, ap, subst, ◌∙◌, arith}}
 use Rattle.cacache_store.specs.declared.store.plain.PlainFile.{PlainFile}
 use Rattle.cacache_system.specs.{Seen.{NumberedFile, NumberedTemp}, AnswersOf.{answer_of}}
-use Rattle.cacache_system_model.specs.{Chains.{StepMade}, callers.{Acts.{Act, begins, steps as makes, ends, stops, set_state, unless_ended}, Made.{now_left}, Seen.{SeenState, answer_seen, temp_of, held_after, open_after, after_seen, IsOnHeld, SparesTemps, EachSeen, seen_at}, Numbers.{NumbersState, after_number, EachNumber, numbers_at, begun_with, begin_one, beginnings, without_begins, NumbersDiffer}, Losing.{steps_made}}}
-use Rattle.cacache_system_model.proofs.callers.{Files.{opens_free}, Removals.{path_of, temp_so}}
-use Rattle.cacache_calls.specs.{declared.{command.Command.{Command, TheVariants.{Ls}}, visit.Visit.TheVariants.{RemoveFile}}, State.{State, walking}, Table.{after, opening}, Sound.{MayBegin}}
+use Rattle.cacache_system_model.specs.{Chains.{StepMade}, callers.{Acts.{Act, begins, steps as makes, ends, stops, set_state, unless_ended}, Made.{now_left}, Seen.{SeenState, answer_seen, held_after, open_after, after_seen, IsOnHeld, SparesTemps, EachSeen, seen_at}, Numbers.{NumbersState, after_number, EachNumber, numbers_at, begun_with, begin_one, beginnings, without_begins, NumbersDiffer}, Losing.{steps_made}}}
+use Rattle.cacache_system_model.proofs.callers.{Files.{opens_free}, ListCalls.{path_of, temp_so}}
+use Rattle.cacache_calls.specs.{declared.command.Command.{Command, TheVariants.{Ls}}, State.{State}, Table.{after, opening}, Sound.{MayBegin}}
 use Rattle.cacache_history.specs.{Setup.{Setup, call_site, may_export, is_outside}, History.{NamesIntegrity}}
 
 -- a call that begins later has begun
@@ -14,11 +13,7 @@ later s None k state = state
 later s (Some command) k state = Some (opening (call_site s k) command)
 
 by_number : (P : Bool → Type 0) (k caller : ℕ) → (k ≡ caller → P true) → ((k ≡ caller → ⊥) → P false) → P (k == caller)
-by_number P k caller here there = by (k == caller) refl
-  where
-    by : (b : Bool) → (k == caller) ≡ b → P b
-    by true e = here (eqb-true k caller e)
-    by false e = there (eqb-false k caller e)
+by_number P k caller here there = search rules
 
 module _ (most : ℕ) (s : Setup) where
   -- a number that is taken isn't taken again
@@ -60,24 +55,14 @@ module _ (most : ℕ) (s : Setup) where
     stands_too each k state is = sees.states k ∙ ap (λ (o : Option Command). later s o k (f.seen.states k)) (no_later acts f k each (sees.taken k state is))
 
     spares_too : (own : State) → SparesTemps f.seen.states own → SparesTemps c.states own
-    spares_too (walking w (RemoveFile p) todo) spares = λ k state path is at. by k state path at (begun_with acts k) (sym (sees.states k) ∙ is)
-      where
-        by : (k : ℕ) (state : State) (path : List ℕ) → temp_of state ≡ Some path → (o : Option Command) → later s o k (f.seen.states k) ≡ Some state → names_of p ≡ names_of path → ⊥
-        by k state path at None is = spares k state path is at
-        by k state path at (Some command) is =
-            let same : opening (call_site s k) command ≡ state = cc in
-            let none : temp_of state ≡ None = ap temp_of (sym same) ∙ temp_so (opening (call_site s k) command) ∙ ap (option_map path_of) (opens_free (call_site s k) command).0 in
-            let no : None ≡ Some path = sym none ∙ at in absurd cc
-    spares_too own spares = tt
+    spares_too own spares = grind (arith, temp_so, path_of, opens_free)
 
   -- ---- the acts after the beginnings
 
   -- a caller's call is another, or over, in both
   set_too : (acts : List Act) (caller : ℕ) (x y : Option State) (c f : ℕ → Option State) → x ≡ y → begun_with acts caller ≡ None → ((k : ℕ) → c k ≡ later s (begun_with acts k) k (f k))
       → (k : ℕ) → set_state caller x c k ≡ later s (begun_with acts k) k (set_state caller y f k)
-  set_too acts caller x y c f same none all k =
-      by_number (λ b. cond b x (c k) ≡ later s (begun_with acts k) k (cond b y (f k))) k caller
-      (λ is. same ∙ ap (λ (o : Option Command). later s o k y) (sym (ap (begun_with acts) is ∙ none))) (λ differ. all k)
+  set_too acts caller x y c f same none all k = search (rules, by_number)
 
   taken_too : (caller : ℕ) (y : Option State) (f : ℕ → Option State) (taken : ℕ → Bool) → taken caller ≡ true → ((k : ℕ) (state : State) → f k ≡ Some state → taken k ≡ true)
       → (k : ℕ) (state : State) → set_state caller y f k ≡ Some state → taken k ≡ true
@@ -197,17 +182,7 @@ module _ (most : ℕ) (s : Setup) where
     -- one more call has begun, and is on its way or given up
     next_ready : (first : ℕ) (c d : SeenState) → Ready first c → d.machine ≡ c.machine → d.held ≡ c.held → d.opened ≡ c.opened → d.begun ≡ c.begun + 1
         → d.states first ≡ later s (commands first) first None → ((k : ℕ) → (k ≡ first → ⊥) → d.states k ≡ c.states k) → Ready (first + 1) d
-    next_ready first c d ready machine held opened counted own others = record {
-      machine = machine ∙ ready.machine;
-      held = held ∙ ready.held;
-      opened = opened ∙ ready.opened;
-      begun = counted ∙ ap (λ (n : ℕ). n + 1) ready.begun;
-      below = λ k less.
-          by_number (λ b. d.states k ≡ later s (commands k) k None) k first (λ same. subst (λ (n : ℕ). d.states n ≡ later s (commands n) n None) (sym same) own)
-          (λ differ. others k differ ∙ ready.below k (omega (arith, less, differ)));
-      above = λ k out.
-          by_number (λ b. d.states k ≡ None) k first (λ same. absurd (omega (arith, out, same))) (λ differ. others k differ ∙ ready.above k (let less : first ≤ k = omega (arith, out) in less));
-    }
+    next_ready first c d ready machine held opened counted own others = search (rules, by_number)
 
     -- a caller's state was set, and others stay
     set_own : (first : ℕ) (x : Option State) (states : ℕ → Option State) → set_state first x states first ≡ x

@@ -1,12 +1,12 @@
 -- Clears whose steps can be made.
-use Rattle.std.proofs.{Common.{◌≡◌, inl, inr, ◌≤◌, ◌^◌, ◌+◌, ◌==◌, ℕ, Bool, true, false, cond, List, [], ◌∷◌, Option, None, Some, Result, Ok, Err, refl, sym, ap, subst, ◌∙◌, arith}, lemmas.{Bool.{eqb-true, eqb-false}, List.{Elements.{All-nil}, Sorted.{IsPermutation-refl}}}}
+use Rattle.std.proofs.{Common.{rules, ◌≡◌, inl, inr, ◌≤◌, ◌^◌, ◌+◌, ℕ, Bool, true, false, cond, List, [], ◌∷◌, Option, None, Some, Result, Ok, Err, refl, sym, ap, subst, ◌∙◌, arith}, lemmas.List.{Elements.{All-nil}, Sorted.{IsPermutation-refl}}}
 use Rattle.std.specs.Prelude.{IfNone, MatchOption, IsPermutation}
 use Rattle.std_io.specs.declared.io.kind.ErrorKind.TheVariants as kind
-use Rattle.cacache_core.specs.{declared.errors.Fault.{Fault, TheVariants.{Device}}, PathNames.{Names, IsProperName}}
+use Rattle.cacache_core.specs.{declared.errors.Fault.{Fault, TheVariants.{Device}}, Paths.{Names, IsProperName}}
 use Rattle.cacache_store.specs.declared.store.step.Step.TheVariants as store
 use Rattle.cacache_store.specs.{declared.store.answer.Name.{Name}, Plain.{PlainAnswer}}
 use Rattle.cacache_disk.specs.{declared.{luck.Luck.TheVariants.{Plain}, node.Node.{Node}}, Tree.{look, Tree, cut, listing}, LedTo.{standing, removable, emptied}, Apply.{fault_told}}
-use Rattle.cacache_system.specs.{declared.call.{CallResult.{CallResult}, CallItem.{CallItem}}, CallLog.{item}, CallsOf.{over, taking_memory, opening_folder, Runs}, AnswersOf.{no_hint, refuses_memory}}
+use Rattle.cacache_system.specs.{declared.call.{CallResult.{CallResult}, CallItem.{CallItem}}, Seen.{item}, CallsOf.{over, taking_memory, opening_folder, Runs}, AnswersOf.{no_hint, refuses_memory}}
 use Rattle.cacache_system.specs.declared.call.SystemCall.TheVariants as asks
 use Rattle.cacache_system.specs.declared.call.CallResult.TheVariants as says
 use Rattle.cacache_system_model.specs.{Machine.{Machine, IsRefused, gone, placed, RemovesNode}, Folders.{HasLeft, OpensNames, OpensFolder, ReadsSome, ReadsFolder}, callers.{Made.{now_left}, Seen.{temp_of}, Example.{ClearsCanBe, ClearsCanRemove}}}
@@ -87,15 +87,7 @@ removal_said m (Err fault) (why, is, memory) = (
 -- a call that is alone and has no temporary file spares all of them
 none_spared : (states : ℕ → Option State) (caller : ℕ) (own : State) → states caller ≡ Some own → temp_of own ≡ None → ((k : ℕ) → (k ≡ caller → ⊥) → states k ≡ None)
     → (k : ℕ) (state : State) (path : List ℕ) → states k ≡ Some state → temp_of state ≡ Some path → ⊥
-none_spared states caller own stands free alone k state path is at = by (k == caller) refl
-  where
-    by : (b : Bool) → (k == caller) ≡ b → ⊥
-    by true e =
-        let both : Some own ≡ Some state = sym stands ∙ ap states (sym (eqb-true k caller e)) ∙ is in
-        let same : own ≡ state = cc in
-        let no : None ≡ Some path = sym free ∙ ap temp_of same ∙ at in
-        absurd cc
-    by false e = let no : None ≡ Some state = sym (alone k (eqb-false k caller e)) ∙ is in absurd cc
+none_spared states caller own stands free alone k state path is at = search rules
 
 pub clears_can_remove : ClearsCanRemove
 clears_can_remove f caller w (RemoveFile p) todo removes stands alone =

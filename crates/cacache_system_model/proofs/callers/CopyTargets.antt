@@ -2,7 +2,7 @@
 use Rattle.std.proofs.{lemmas.Bool.{false_from_ne_true}, Common.{◌≡◌, ℕ, Bool, true, false, List, Option, None, Some, Ok, refl, sym, ap, subst, ◌∙◌}}
 use Rattle.std.specs.Prelude.{Result, Err}
 use Rattle.std_io.specs.declared.io.kind.ErrorKind.{ErrorKind}
-use Rattle.cacache_core.specs.{declared.errors.Fault.{Fault}, PathNames.{Names}}
+use Rattle.cacache_core.specs.{declared.errors.Fault.{Fault}, Paths.{Names}}
 use Rattle.cacache_disk.specs.{declared.{luck.Luck.TheVariants.{Plain, Fail, Take}, node.Node.{Node, TheVariants.{Folder, File, Link}}}, Tree.{Tree, look, kind_of, same_path}, LedTo.{place, standing, found, writable, free}}
 use Rattle.cacache_disk.proofs.{Maps.{same_path-true}, FoundNodes.{place_ok}}
 use Rattle.cacache_loss.specs.Fixing.{is_at}
@@ -10,7 +10,7 @@ use Rattle.cacache_system.specs.{declared.call.{FileInfo.{FileInfo}, CallResult.
 use Rattle.cacache_system.specs.declared.call.SystemCall.TheVariants as asks
 use Rattle.cacache_system.specs.declared.call.CallResult.TheVariants as says
 use Rattle.cacache_system_model.specs.{Machine.{Machine, Describes, OpensIf, ShowsNode, ShowsEnd, SpellsEnd, with_empty}, Calls.{LeavesCreated, OccursSomehow}, callers.Opened.{Avoids, IsApart}}
-use Rattle.cacache_system_model.proofs.{Fresh.{free_at_place, dangling}, Steps.{Opening.{of_some}, CopyFacts.{writable_found, Stands, no_way, nothing, a_folder_here, a_file_here, a_link_here, stands_so, not_absent}}, Views.{View, nowhere, a_folder, a_file, view}, callers.{FreshFiles.{free_so}, UnchangedCalls.{opens_number}}}
+use Rattle.cacache_system_model.proofs.{Fresh.{free_at_place, dangling}, Steps.{Opening.{of_some}, CopyFacts.{writable_found, Stands, no_way, nothing, a_folder_here, a_file_here, a_link_here, stands_so, not_absent}}, Views.{View, nowhere, a_folder, a_file, view}, callers.{OpenTemps.{free_so}, UnchangedCalls.{opens_number}}}
 
 -- where different things are, names differ
 names_differ : (t : Tree) (q names : Names) (a b : Option Node) → look t q ≡ a → look t names ≡ b → (a ≡ b → ⊥) → same_path q names ≡ false

@@ -1,51 +1,37 @@
 -- Where a machine and a history agree, each step of a call has what its law asks.
-use Rattle.std.proofs.{lemmas.Bool.{false_from_ne_true}, Common.{◌≡◌, ◌⊎◌, inl, inr, ℕ, zero, suc, Bool, false, List, [], ◌∷◌, ◌++◌, Option, None, Some, Ok, refl, sym, ap, subst, ◌∙◌, append-nil}}
+use Rattle.std.proofs.{lemmas.{Grind.{common_steps}, Bool.{false_from_ne_true}}, Common.{arith, ◌≡◌, ◌⊎◌, inl, inr, ℕ, zero, suc, Bool, false, List, [], ◌∷◌, ◌++◌, Option, None, Some, Ok, refl, sym, ap, subst, ◌∙◌, append-nil}}
 use Rattle.std.specs.Prelude.{Result, Err, IfOk, IfSome}
-use Rattle.cacache_core.specs.{declared.errors.Fault.{Fault}, PathNames.{Names, names_of}}
+use Rattle.cacache_core.specs.{declared.errors.Fault.{Fault}, Paths.{Names, names_of}}
 use Rattle.cacache_store.specs.declared.store.step.Step.TheVariants as steps
-use Rattle.cacache_disk.specs.{declared.node.Node.{Node, TheVariants.{Folder, File, Link}}, Tree.{Tree, look}, LedTo.{and_then, standing, followed, leads, place, on_link, writable}, Rooted.{StandsIn, AreProper, Rooted}}
+use Rattle.cacache_disk.specs.{declared.node.Node.{Node, TheVariants.{Folder, File, Link}}, Tree.{Tree, look, StandsIn, AreProper, Rooted}, LedTo.{and_then, standing, followed, leads, place, on_link, writable}}
 use Rattle.cacache_disk.proofs.{FoundNodes.{and_then_ok, place_ok, standing_ok}, Standing.{way_clear}}
 use Rattle.cacache_system.specs.{Seen.{NumberedTemp, NumberedStep}, CallsOf.{Runs}, AnswersOf.{Hint, first}}
-use Rattle.cacache_system_model.specs.{Machine.{Machine}, Calls.{OccursSomehow, EachCall}, Laws.{step_on}, Making.{HasNoLink}, Syncing.{EndsInNoLink}, OneCall.{StillStands}, Premises.{IsStill, Premise}, Mirrors.{hollow, Mirrors, IsNoTemp, SparesOpen}, Chains.{StepMade, WritesTemp, IsMade}, callers.{Acts.{Act, steps as makes, SystemState, EndsFailed, step_of, MakesStep, MayAct}, Made.{AreTemps}, Storing.{IsNotFor, Stores, IsHeld, HoldsTemp, HintStands, IsExplained, MakesStoringStep, MayStore, StoringMakeHistories}}}
+use Rattle.cacache_system_model.specs.{Machine.{Machine}, Calls.{OccursSomehow, EachCall}, Laws.{step_on}, StepLaws.{HasNoLink, EndsInNoLink, StillStands}, Premises.{IsStill, Premise}, Mirrors.{hollow, Mirrors, IsNoTemp, SparesOpen}, Chains.{StepMade, WritesTemp, IsMade}, callers.{Acts.{Act, SystemState, EndsFailed, step_of, MakesStep, MayAct}, Made.{AreTemps}, Storing.{IsNotFor, Stores, IsHeld, HoldsTemp, HintStands, IsExplained, MakesStoringStep, MayStore, StoringMakeHistories}}}
 use Rattle.cacache_system_model.proofs.{Mirroring.{SameShape, shapes, leads_same, writable_same}, callers.Following.{Agree, has_call, make_histories}}
-use Rattle.cacache_value.specs.{Kinds.{PathKind, Content, Bucket, Temporary, Way, Elsewhere, path_kind, is_used, IsFor}, OpeningTrees.{LieApart}, Placed.{MayStand, Placed, Proper}}
-use Rattle.cacache_value.proofs.{KindsApart.{above}, FoundPaths.{of_names, suits, Reaches, found, missing, bucket_reached, unreachable, writable_out}}
+use Rattle.cacache_value.specs.{Kinds.{PathKind, Bucket, Temporary, Way, Elsewhere, path_kind, is_used, IsFor}, Placed.{LieApart, MayStand, Placed, Proper}}
+use Rattle.cacache_value.proofs.{PathKinds.{above}, Applying.{of_names, suits, Reaches, found, missing, bucket_reached, unreachable, writable_out}}
 use Rattle.cacache_calls.specs.{declared.reply.Reply.{Reply}, Table.{wants}}
-use Rattle.cacache_history.{specs.{Setup.{Setup, home}, History.{Now}}, proofs.{Histories.Holding.{of_caller}, Proper.{sound_proper}}}
+use Rattle.cacache_history.{specs.{Setup.{Setup, home}, History.{Now}}, proofs.{Histories.Holding.{of_caller}, StepActs.{sound_proper}}}
 
 -- ---- nodes by their shape
 
 pub hollow_folder : (o : Option Node) → hollow o ≡ Some Folder → o ≡ Some Folder
-hollow_folder None e = let no : None ≡ Some Folder = e in absurd cc
-hollow_folder (Some Folder) e = refl
-hollow_folder (Some (File bytes)) e = let no : Some (File []) ≡ Some Folder = e in absurd cc
-hollow_folder (Some (Link target)) e = let no : Some (Link target) ≡ Some Folder = e in absurd cc
+hollow_folder o e = grind (arith, common_steps)
 
 pub hollow_link : (o : Option Node) (target : List ℕ) → hollow o ≡ Some (Link target) → o ≡ Some (Link target)
-hollow_link None target e = let no : None ≡ Some (Link target) = e in absurd cc
-hollow_link (Some Folder) target e = let no : Some Folder ≡ Some (Link target) = e in absurd cc
-hollow_link (Some (File bytes)) target e = let no : Some (File []) ≡ Some (Link target) = e in absurd cc
-hollow_link (Some (Link other)) target e = e
+hollow_link o target e = grind (arith, common_steps)
 
 pub hollow_file : (o : Option Node) → hollow o ≡ Some (File []) → (bytes : List ℕ) × (o ≡ Some (File bytes))
-hollow_file None e = let no : None ≡ Some (File []) = e in absurd cc
-hollow_file (Some Folder) e = let no : Some Folder ≡ Some (File []) = e in absurd cc
-hollow_file (Some (File bytes)) e = (bytes, refl)
-hollow_file (Some (Link target)) e = let no : Some (Link target) ≡ Some (File []) = e in absurd cc
+hollow_file o e = grind (arith, common_steps)
 
 hollow_none : (n : Node) → hollow (Some n) ≡ None → ⊥
-hollow_none (File bytes) e = let no : Some (File []) ≡ None = e in cc
-hollow_none n e = let no : Some n ≡ None = e in cc
+hollow_none n e = grind (arith, common_steps)
 
 same_stands : (ut ct ud cd : Option Node) → hollow ud ≡ hollow ut → hollow cd ≡ hollow ct → StandsIn ud cd → StandsIn ut ct
-same_stands ut None ud cd u c s = tt
-same_stands ut (Some n) ud None u c s = absurd (hollow_none n (sym c))
-same_stands ut (Some n) ud (Some k) u c s = hollow_folder ut (sym u ∙ ap hollow s)
+same_stands ut ct ud cd u c s = grind (arith, hollow_none, hollow_folder)
 
 same_proper : (names : Names) (ct cd : Option Node) → hollow cd ≡ hollow ct → IfSome cd (λ node. AreProper names) → IfSome ct (λ node. AreProper names)
-same_proper names None cd c h = tt
-same_proper names (Some n) None c h = absurd (hollow_none n (sym c))
-same_proper names (Some n) (Some k) c h = h
+same_proper names ct cd c h = grind (arith, hollow_none)
 
 -- a tree of the same shape is rooted too
 pub rooted_same : (t d : Tree) → SameShape t d → Rooted d → Rooted t
@@ -76,9 +62,7 @@ module _ (h : Option Names) (t d : Tree) (s : SameShape t d) (placed : Placed h 
 -- ---- where a path leads
 
 link_out : (h : Option Names) (target : List ℕ) (k : PathKind) → MayStand h (Some (Link target)) k → IsFor h Elsewhere target
-link_out h target Content s = s
-link_out h target Elsewhere s = s
-link_out h target k s = absurd s
+link_out h target k s = grind (arith, common_steps)
 
 -- a path leads to its own names, or out of the cache
 abbrev LedOut : Option Names → Names → Names → Type 0
@@ -87,12 +71,10 @@ LedOut h names new = (names ≡ new) ⊎ (path_kind h new ≡ Elsewhere)
 on_kind : (h : Option Names) (here : Option Node) (k : PathKind) (names new : Names) (go : List ℕ → Result Names Fault) → MayStand h here k
     → ((target : List ℕ) → IsFor h Elsewhere target → go target ≡ Ok new → path_kind h new ≡ Elsewhere)
     → on_link here names go ≡ Ok new → LedOut h names new
-on_kind h (Some (Link target)) k names new go s on e = inr (on target (link_out h target k s) e)
-on_kind h here k names new go s on e = inl cc
+on_kind h here k names new go s on e = grind (arith, link_out)
 
 end_kind : (h : Option Names) (names new : Names) → path_kind h names ≡ Elsewhere → LedOut h names new → path_kind h new ≡ Elsewhere
-end_kind h names new k (inl same) = sym (ap (path_kind h) same) ∙ k
-end_kind h names new k (inr e) = e
+end_kind h names new k which = grind (arith, common_steps)
 
 followed_kind : (h : Option Names) (t : Tree) (n : ℕ) (names new : Names) → Placed h t → followed n t names ≡ Ok new → LedOut h names new
 unfolding followed
@@ -116,13 +98,10 @@ module _ (h : Option Names) (temps : Names → Bool) (are : AreTemps h temps) wh
   no_temp names k is apart = false_from_ne_true (temps names) (λ e. apart (sym (are names e) ∙ is))
 
   led_no_temp : (p : List ℕ) (names new : Names) → names_of p ≡ Ok names → IsNotFor h Temporary p → LedOut h names new → temps new ≡ false
-  led_no_temp p names new named other (inl same) =
-      false_from_ne_true (temps new) (λ e. of_names (λ n. path_kind h n ≡ Temporary → ⊥) p names other named (ap (path_kind h) same ∙ are new e))
-  led_no_temp p names new named other (inr out) = no_temp new Elsewhere out (λ e. cc)
+  led_no_temp p names new named other which = grind (arith, of_names, no_temp)
 
   linked_spares : (t : Tree) (p : List ℕ) (r : Result Names Fault) → place t p ≡ r → IsNotFor h Temporary p → IsNoTemp temps r
-  linked_spares t p (Ok names) e other = led_no_temp p names names (place_ok t p names e) other (inl refl)
-  linked_spares t p (Err fault) e other = tt
+  linked_spares t p r e other = grind (arith, led_no_temp, place_ok)
 
   pub links_spare : (t : Tree) (p : List ℕ) → IsNotFor h Temporary p → IsNoTemp temps (place t p)
   links_spare t p other = linked_spares t p (place t p) refl other
@@ -136,16 +115,13 @@ module _ (h : Option Names) (temps : Names → Bool) (are : AreTemps h temps) wh
     reads_spare p other = subst (IsNoTemp temps) (leads_same t d s p) (spared p (leads d p) refl other)
 
     reached_spares : (p : List ℕ) (names : Names) → path_kind h names ≡ Bucket → Reaches names (writable d p) → IsNoTemp temps (writable d p)
-    reached_spares p names k (found e) = subst (IsNoTemp temps) (sym e) (no_temp names Bucket k (λ same. cc))
-    reached_spares p names k (missing e) = subst (IsNoTemp temps) (sym e) tt
+    reached_spares p names k holds = grind (arith, found, no_temp, missing)
 
     bucket_spares : (p : List ℕ) (r : Result Names Fault) → names_of p ≡ r → IfOk r (λ names. path_kind h names ≡ Bucket) → IsNoTemp temps (writable d p)
-    bucket_spares p (Ok names) named k = reached_spares p names k (bucket_reached h d p names placed named k)
-    bucket_spares p (Err fault) named k = subst (IsNoTemp temps) (sym (unreachable d p fault named)) tt
+    bucket_spares p r named k = grind (arith, reached_spares, bucket_reached, unreachable)
 
     copied_spares : (p : List ℕ) (r : Result Names Fault) → writable d p ≡ r → IsFor h Elsewhere p → IsNoTemp temps r
-    copied_spares p (Ok names) e is = no_temp names Elsewhere (writable_out h d p names placed is e).0 (λ same. cc)
-    copied_spares p (Err fault) e is = tt
+    copied_spares p r e is = grind (arith, no_temp, writable_out)
 
     pub copies_spare : (p : List ℕ) → IsFor h Elsewhere p → IsNoTemp temps (writable t p)
     copies_spare p is = subst (IsNoTemp temps) (writable_same t d s p) (copied_spares p (writable d p) refl is)
@@ -200,11 +176,7 @@ module _ (h : Option Names) (temps : Names → Bool) (are : AreTemps h temps) (m
 made_so : (temps : Names → Bool) (made : StepMade) (reply : Option Reply) → Runs (first made.hint made.step) made.items made.end
     → EachCall OccursSomehow made.before made.items made.after → IsExplained made reply → HasAsked temps made.before made.hint made.step
     → IsMade temps made ⊎ (EndsFailed made reply × Premise made.before made.hint made.step)
-made_so temps made reply runs each luck (inr writes) = inl (runs, each, inr (inl writes))
-made_so temps made reply runs each (inl done) (inl (premise, spares)) = inl (runs, each, inl (record { premise = premise; done = done; spares = spares }))
-made_so temps made reply runs each (inr (inl (plain, well, memory))) (inl (premise, spares)) =
-    inl (runs, each, inr (inr (record { premise = premise; plain = plain; well = well; memory = memory; spares = spares })))
-made_so temps made reply runs each (inr (inr failed)) (inl (premise, spares)) = inr (failed, premise)
+made_so temps made reply runs each luck which = grind (arith, common_steps)
 
 abbrev forgotten : {A B C : Type 0} → A ⊎ (B × C) → A ⊎ B
 forgotten (inl a) = inl a
@@ -241,8 +213,7 @@ module _ (s : Setup) (apart : LieApart (home s) s.outside) (w : SystemState) (no
     }
 
   pub may_act : (act : Act) → MayStore s w act → MayAct s w act
-  may_act (makes caller made reply) m = lawful caller made reply m (forgotten (step_so caller made reply m))
-  may_act act may = may
+  may_act act m = grind (arith, step_so)
 
 pub storing_makes_histories : StoringMakeHistories
 storing_makes_histories = make_histories MayStore (λ s apart w now agree act may. may_act s apart w now agree act may)

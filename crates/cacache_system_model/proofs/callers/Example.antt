@@ -1,18 +1,18 @@
 -- A call that asks for a content, on any machine with a cache.
-use Rattle.std.proofs.Common.{◌≡◌, inl, inr, ◌≤◌, ◌^◌, ◌+◌, ℕ, true, false, List, [], ◌∷◌, Option, None, Some, Result, Ok, Err, length, refl, sym, ap, subst, ◌∙◌, arith}
+use Rattle.std.proofs.{lemmas.Grind.{common_steps}, Common.{◌≡◌, inl, inr, ◌≤◌, ◌^◌, ◌+◌, ℕ, true, false, List, [], ◌∷◌, Option, None, Some, Result, Ok, Err, length, refl, sym, ap, subst, ◌∙◌, arith}}
 use Rattle.std.specs.Prelude.{IfSome}
 use Rattle.std_io.specs.declared.io.kind.ErrorKind.TheVariants as kind
-use Rattle.cacache_core.specs.{declared.{errors.{Fault.{Fault}, Error.TheVariants.{OutOfMemory}}, integrity.digest.Hash.{Hash}}, PathNames.{Names}}
+use Rattle.cacache_core.specs.{declared.{errors.{Fault.{Fault}, Error.TheVariants.{OutOfMemory}}, integrity.digest.Hash.{Hash}}, Paths.{Names}}
 use Rattle.cacache_store.specs.declared.store.step.Step.TheVariants as store
 use Rattle.cacache_store.specs.declared.store.answer.Answer.TheVariants as answers
 use Rattle.cacache_store.specs.Plain.{PlainAnswer}
 use Rattle.cacache_disk.specs.{declared.{luck.Luck.TheVariants.{Plain}, node.Node.{Node, TheVariants.{Folder, File, Link}}}, Tree.{look, kind_of}, LedTo.{found}}
-use Rattle.cacache_system.specs.{declared.call.{FileInfo.{FileInfo}, CallResult.{CallResult}}, CallLog.{item}, AnswersOf.{no_hint, answer_of, refuses_memory}}
+use Rattle.cacache_system.specs.{declared.call.{FileInfo.{FileInfo}, CallResult.{CallResult}}, Seen.{item}, AnswersOf.{no_hint, answer_of, refuses_memory}}
 use Rattle.cacache_system.specs.declared.call.SystemCall.TheVariants as asks
 use Rattle.cacache_system.specs.declared.call.CallResult.TheVariants as says
 use Rattle.cacache_system_model.specs.{Machine.{Machine, is_regular, Describes, ShowsEnd}, Chains.{StepMade}, callers.{Made.{now_left}, Seen.{answer_seen}, Example.{QuestionsCanBe}}}
 use Rattle.cacache_system_model.proofs.Saying.{Sayable, found_say}
-use Rattle.cacache_calls.specs.{declared.{carried.Content.{Content}, reply.Reply.{Reply, TheVariants.{Exists, Refused}}}, State.{asking}, StepPaths.{content_path}, Table.{after}}
+use Rattle.cacache_calls.specs.{declared.{carried.Content.{Content}, reply.Reply.{Reply, TheVariants.{Exists, Refused}}}, State.{asking}, Steps.{content_path}, Table.{after}}
 use Rattle.cacache_history.specs.{Setup.{Setup}, History.{Ends}}
 
 -- ---- what the system can say
@@ -29,8 +29,7 @@ abbrev info_of : Node → ℕ × ℕ → FileInfo
 info_of node inode = record { kind = kind_of node; regular = is_regular node; size = size_of node; inode = inode.0; device = inode.1; mode = 0; owner = 0; group = 0 }
 
 described : (node : Node) (inode : ℕ × ℕ) → Describes node inode (info_of node inode)
-described (File bytes) inode = record { kind = refl; regular = refl; size = refl; number = refl }
-described node inode = record { kind = refl; regular = refl; size = tt; number = refl }
+described node inode = grind (arith, common_steps)
 
 no_failure : (info : FileInfo) → says.Info info ≡ says.Failed kind.OutOfMemory → ⊥
 no_failure info e = cc

@@ -1,16 +1,14 @@
 -- The temporary file and the open file of a state.
-use Rattle.std.{proofs.Common.{◌≡◌, ◌⊎◌, inl, inr, ◌==◌, ℕ, List, [], ◌∷◌, Option, None, Some, Ok, length, drop, take, nat_le, refl, sym, ap, ◌∙◌}, specs.Prelude.{◌++◌, ◌+◌, ◌-◌}}
-use Rattle.cacache_core.specs.{declared.errors.{Fault.{Fault}, Error.TheVariants.{IntegrityError}, IntegrityFault.TheVariants.{Check}}, Meeting.{meets}, Integrity.{actual}}
+use Rattle.std.proofs.{lemmas.Grind.{common_steps}, Common.{rules, arith, ◌≡◌, ◌⊎◌, inl, inr, ℕ, List, [], ◌∷◌, Option, None, Some, Ok, length, take, nat_le, refl, sym, ◌∙◌}}
+use Rattle.std.specs.Prelude.{◌++◌, ◌+◌, ◌-◌}
+use Rattle.cacache_core.specs.declared.errors.Fault.{Fault}
 use Rattle.cacache_core.specs.declared.errors.Fault.TheVariants as faults
 use Rattle.cacache_store.specs.{declared.store.plain.{PlainFile.{PlainFile}, PlainTemp.{PlainTemp}}, Plain.{PlainStep, PlainAnswer}}
 use Rattle.cacache_store.specs.declared.store.step.Step.TheVariants as steps
 use Rattle.cacache_store.specs.declared.store.answer.Answer.TheVariants as answers
-use Rattle.cacache_entry.specs.Latest.{Found}
-use Rattle.cacache_calls.specs.{declared.{command.{Command.{Command}, Export.{Export}, How.{How, TheVariants.{Copy}}}, carried.{Aim.{Aim}, Commit.{Commit}, Content.{Content}, Lookup.{Lookup}}, reply.Reply.TheVariants.{Copied, Done, Listed, Read}, visit.{Visit.{Visit, TheVariants.{Enter, ReadBucket, RemoveFile, RemoveFolder}}, Task.{Task, TheVariants.{Make, Stumble}}}}, Answers.{done_in, temp_in, written_in, synced_in, there_in, taken_in, bytes_in, file_in as file_answered, got_in, length_in, names_in}, Common.{fails, ends_with, errand_step}, ContentReads.{checked, answer_there, answer_absent}, Exporting.{export_from, export_content, export, copied_count}, Inserting.{insertion, deletion, bucket_line, recorded, after_append, insert, refused_cause}, Linking.{after_size, after_read}, Looking.{found_in, found_for, found_content, after_bucket, no_bucket}, State.{State, doing, creating, writing, syncing, persisting, linking, confirming, appending, looking, reading, asking, sizing, opening_file, hashing, copying, walking, over, Site, Insertion, Errand, Item, Walk, Hashing, to_verify, to_link, make_folder, sync_file, sync_dir}, StepPaths.{content_folder, content_path}, Storing.{placed, secured, secured_found, write_rest, after_write, after_confirm}, Table.{wants, after, opening}, Walking.{most, failed, give, miss, walk_ends, walk_on, too_many, tasks_of, leaving, entered, unread_bucket, listed, items_in, visit_step, after_visit}}
-use Rattle.cacache_calls.proofs.{Branches.{cond_leads, go_on_leads}, Leading.{moves_on, secures, secures_found, records, places, inserts}, Sound.{some_is}}
-use Rattle.cacache_calls.specs.declared.command.Command.TheVariants as commands
-use Rattle.cacache_calls.specs.declared.command.Source.TheVariants as sources
-use Rattle.cacache_calls.specs.declared.carried.Aim.TheVariants as aims
+use Rattle.cacache_entry.specs.Bucket.{Found}
+use Rattle.cacache_calls.specs.{declared.{command.{Command.{Command}, Export.{Export}, How.{How}}, carried.{Aim.{Aim}, Commit.{Commit}, Content.{Content}, Lookup.{Lookup}}, reply.Reply.TheVariants.{Done, Listed, Read}, visit.{Visit.{Visit, TheVariants.{Enter, ReadBucket, RemoveFile, RemoveFolder}}, Task.{Task, TheVariants.{Make, Stumble}}}}, Answers.{done_in, temp_in, written_in, synced_in, there_in, taken_in, bytes_in, file_in as file_answered, got_in, length_in, names_in}, Common.{fails, errand_step}, Reading.{checked, answer_there, answer_absent, export_from, export_content, export, found_for, no_bucket}, Inserting.{bucket_line, recorded, after_append, insert, refused_cause}, Linking.{after_size, after_read}, State.{State, doing, creating, writing, syncing, persisting, linking, confirming, appending, looking, reading, asking, sizing, opening_file, hashing, copying, walking, over, Site, Insertion, Errand, Item, Walk, Hashing, to_verify, sync_file, sync_dir}, Steps.{content_path}, Storing.{placed, secured, secured_found, write_rest, after_confirm}, Table.{wants, after, opening}, Walking.{most, failed, give, miss, walk_ends, walk_on, too_many, tasks_of, leaving, entered, unread_bucket, listed, items_in, visit_step, after_visit}}
+use Rattle.cacache_calls.proofs.{Going.{cond_leads, go_on_leads, moves_on, secures, secures_found, records, places, inserts}, Sound.{some_is}}
 
 -- the temporary file that a state is about
 abbrev pub file_in : State → Option PlainTemp
@@ -69,30 +67,19 @@ free_inserts : (i : Insertion) → IsFree (insert i)
 free_inserts i = inserts IsFree (λ reply. (refl, refl)) (λ folder j. (refl, refl)) i (refused_cause i)
 
 free_how : (how : How) (from to : List ℕ) (count : Option ℕ) → IsFree (export_from how from to count)
-free_how Copy from to count = (refl, refl)
-free_how how from to count = (refl, refl)
+free_how how from to count = grind (arith, common_steps)
 
 free_export : (k : Content) (e : Export) → IsFree (export k e)
 free_export k e = cond_leads IsFree e.checked (opening_file (to_verify k e)) (export_content k e None) (λ _. (refl, refl)) (λ _. free_how e.how (content_path k.cache k.integrity) e.to None)
 
 pub opens_free : (site : Site) (command : Command) → IsFree (opening site command)
-opens_free site (commands.Insert i) = free_inserts (insertion site.cache i)
-opens_free site (commands.Delete d) = free_inserts (deletion site.cache d)
-opens_free site (commands.Export (sources.Key key) e) = (refl, refl)
-opens_free site (commands.Export (sources.Hash i) e) = free_export (record { cache = site.cache; integrity = i }) e
-opens_free site command = (refl, refl)
+opens_free site command = grind (arith, free_inserts, free_export)
 
 free_found : (l : Lookup) (aim : Aim) (found : Option Found) → IsFree (found_for l aim found)
-free_found l aims.Report found = (refl, refl)
-free_found l aims.Remove None = (refl, refl)
-free_found l aims.Remove (Some f) = (refl, refl)
-free_found l aims.Read (Some f) = (refl, refl)
-free_found l (aims.Export e) (Some f) = free_export (found_content l f) e
-free_found l aim None = (refl, refl)
+free_found l aim found = grind (arith, free_export)
 
 free_unread : (l : Lookup) (fault : Fault) → IsFree (no_bucket l fault)
-free_unread l faults.NotFound = free_found l l.aim None
-free_unread l fault = (refl, refl)
+free_unread l fault = grind (arith, free_found)
 
 -- ---- walks
 
@@ -155,58 +142,37 @@ module _ (old : State) (a : PlainAnswer) where
   free_follows s h = (inr (inl h.0), inr (inl h.1))
 
   rest_follows : (c : Commit) (file : PlainTemp) (rest : List ℕ) → file_given a ≡ Some file → Follows old a (write_rest c file rest)
-  rest_follows c file [] e =
-      moves_on (λ s. Follows old a (doing (make_folder (content_folder c.cache c.computed)) s)) c file (inl (sym e), inr (inl refl)) (inl (sym e), inr (inl refl))
-  rest_follows c file (b ∷ bs) e = (inl (sym e), inr (inl refl))
+  rest_follows c file rest e = grind (arith, moves_on)
 
 done_none : (a : PlainAnswer) (x : Unit {0}) → done_in a ≡ Ok x → (file_given a ≡ None) × (open_given a ≡ None)
-done_none answers.Done x e = (refl, refl)
-done_none a x e = absurd cc
+done_none a x e = grind (arith, common_steps)
 
 temp_given : (a : PlainAnswer) (file : PlainTemp) → temp_in a ≡ Ok file → file_given a ≡ Some file
-temp_given (answers.Temp f) file e = let same : f ≡ file = cc in ap Some same
-temp_given a file e = absurd cc
+temp_given a file e = grind (arith, common_steps)
 
 written_given : (a : PlainAnswer) (w : PlainTemp × ℕ) → written_in a ≡ Ok w → file_given a ≡ Some w.0
-written_given (answers.Wrote f n) w e = let pair : ◌≡◌ {A = PlainTemp × ℕ} (f, n) w = cc in ap (λ (x : PlainTemp × ℕ). Some x.0) pair
-written_given a w e = absurd cc
+written_given a w e = grind (arith, common_steps)
 
 synced_given : (a : PlainAnswer) (file : PlainTemp) → synced_in a ≡ Ok file → file_given a ≡ Some file
-synced_given (answers.Synced f) file e = let same : f ≡ file = cc in ap Some same
-synced_given a file e = absurd cc
+synced_given a file e = grind (arith, common_steps)
 
 opened_given : (a : PlainAnswer) (file : PlainFile) → file_answered a ≡ Ok file → open_given a ≡ Some file
-opened_given (answers.File f) file e = let same : f ≡ file = cc in ap Some same
-opened_given a file e = absurd cc
+opened_given a file e = grind (arith, common_steps)
 
 got_given : (a : PlainAnswer) (g : PlainFile × List ℕ) → got_in a ≡ Ok g → open_given a ≡ Some g.0
-got_given (answers.Got f bytes) g e = let pair : ◌≡◌ {A = PlainFile × List ℕ} (f, bytes) g = cc in ap (λ (x : PlainFile × List ℕ). Some x.0) pair
-got_given a g e = absurd cc
+got_given a g e = grind (arith, common_steps)
 
 free_hashed : (h : Hashing) (bytes : List ℕ) (file : PlainFile) → IsFree (after_read h bytes (file, []))
-free_hashed (to_link t) bytes file = (refl, refl)
-free_hashed (to_verify k e) bytes file =
-    cond_leads IsFree (meets k.integrity bytes) (export_content k e (Some (length bytes))) (ends_with (IntegrityError (Check k.integrity (actual k.integrity bytes))))
-    (λ _. free_how e.how (content_path k.cache k.integrity) e.to (Some (length bytes))) (λ _. (refl, refl))
+free_hashed h bytes file = grind (arith, cond_leads, free_how)
 
 read_follows : (old : State) (a : PlainAnswer) (h : Hashing) (bytes : List ℕ) (g : PlainFile × List ℕ) → open_given a ≡ Some g.0 → Follows old a (after_read h bytes g)
-read_follows old a h bytes (file, []) e = free_follows old a (after_read h bytes (file, [])) (free_hashed h bytes file)
-read_follows old a h bytes (file, b ∷ bs) e = (inr (inl refl), inl (sym e))
+read_follows old a h bytes g e = grind (arith, free_follows, free_hashed)
 
 pub follows_after : (s : State) (a : PlainAnswer) → Follows s a (after s a)
-follows_after (doing errand s) a =
-    go_on_leads (Follows (doing errand s) a) (done_in a) fails (λ _. s) (inr (inl refl), inr (inl refl)) (λ fault. (inr (inl refl), inr (inl refl)))
-    (λ x e. let none = done_none a x e in (inr (inr (refl, none.0, tt)), inr (inr (refl, none.1, tt))))
-follows_after (creating number c rest) a =
-    go_on_leads (Follows (creating number c rest) a) (temp_in a) fails (λ file. write_rest c file rest) (inr (inl refl), inr (inl refl)) (λ fault. (inr (inl refl), inr (inl refl)))
-    (λ file e. rest_follows (creating number c rest) a c file rest (temp_given a file e))
-follows_after (writing c file rest) a =
-    go_on_leads (Follows (writing c file rest) a) (written_in a) fails (after_write c rest) (inr (inl refl), inr (inl refl)) (λ fault. (inr (inl refl), inr (inl refl)))
-    (λ w e. cond_leads (Follows (writing c file rest) a) (w.1 == 0) (fails faults.WriteZero) (write_rest c w.0 (drop w.1 rest)) (λ _. (inr (inl refl), inr (inl refl)))
-    (λ _. rest_follows (writing c file rest) a c w.0 (drop w.1 rest) (written_given a w e)))
-follows_after (syncing c file) a =
-    go_on_leads (Follows (syncing c file) a) (synced_in a) fails (persisting c) (inr (inl refl), inr (inl refl)) (λ fault. (inr (inl refl), inr (inl refl)))
-    (λ new e. (inl (sym (synced_given a new e)), inr (inl refl)))
+follows_after (doing errand s) a = search (rules, go_on_leads, done_none)
+follows_after (creating number c rest) a = search (rules, go_on_leads, rest_follows, temp_given)
+follows_after (writing c file rest) a = search (rules, go_on_leads, cond_leads, rest_follows, written_given)
+follows_after (syncing c file) a = search (rules, go_on_leads, synced_given)
 follows_after (persisting c file) a =
     free_follows (persisting c file) a (after (persisting c file) a) (go_on_leads IsFree (done_in a) (confirming c) (λ _. secured c) (refl, refl) (λ fault. (refl, refl)) (λ x e. free_secured c))
 follows_after (linking c target) a =
@@ -217,21 +183,13 @@ follows_after (confirming c fault) a =
 follows_after (appending i) a =
     free_follows (appending i) a (after (appending i) a) (go_on_leads IsFree (taken_in a) fails (after_append i) (refl, refl) (λ fault. (refl, refl))
     (λ n e. cond_leads IsFree (nat_le (length (bucket_line i)) n) (recorded i) (fails faults.ShortAppend) (λ _. records IsFree free_syncs i (refl, refl)) (λ _. (refl, refl))))
-follows_after (looking l) a =
-    free_follows (looking l) a (after (looking l) a) (go_on_leads IsFree (bytes_in a) (no_bucket l) (after_bucket l) (refl, refl) (free_unread l) (λ bytes e. free_found l l.aim (found_in l.key bytes)))
-follows_after (reading k) a =
-    free_follows (reading k) a (after (reading k) a) (go_on_leads IsFree (bytes_in a) fails (checked k) (refl, refl) (λ fault. (refl, refl))
-    (λ bytes e. cond_leads IsFree (meets k.integrity bytes) (over (Read bytes)) (ends_with (IntegrityError (Check k.integrity (actual k.integrity bytes)))) (λ _. (refl, refl)) (λ _. (refl, refl))))
+follows_after (looking l) a = search (rules, free_follows, go_on_leads, free_unread, free_found)
+follows_after (reading k) a = search (rules, free_follows, go_on_leads, cond_leads)
 follows_after (asking k) a = free_follows (asking k) a (after (asking k) a) (go_on_leads IsFree (there_in a) answer_absent answer_there (refl, refl) (λ fault. (refl, refl)) (λ there e. (refl, refl)))
 follows_after (sizing t) a = free_follows (sizing t) a (after (sizing t) a) (go_on_leads IsFree (length_in a) fails (after_size t) (refl, refl) (λ fault. (refl, refl)) (λ n e. (refl, refl)))
-follows_after (opening_file h) a =
-    go_on_leads (Follows (opening_file h) a) (file_answered a) fails (λ file. hashing h file []) (inr (inl refl), inr (inl refl)) (λ fault. (inr (inl refl), inr (inl refl)))
-    (λ file e. (inr (inl refl), inl (sym (opened_given a file e))))
-follows_after (hashing h file bytes) a =
-    go_on_leads (Follows (hashing h file bytes) a) (got_in a) fails (after_read h bytes) (inr (inl refl), inr (inl refl)) (λ fault. (inr (inl refl), inr (inl refl)))
-    (λ g e. read_follows (hashing h file bytes) a h bytes g (got_given a g e))
-follows_after (copying from to count) a =
-    free_follows (copying from to count) a (after (copying from to count) a) (go_on_leads IsFree (taken_in a) fails (λ n. over (Copied (copied_count count n))) (refl, refl) (λ fault. (refl, refl)) (λ n e. (refl, refl)))
+follows_after (opening_file h) a = search (rules, go_on_leads, opened_given)
+follows_after (hashing h file bytes) a = search (rules, go_on_leads, read_follows, got_given)
+follows_after (copying from to count) a = search (rules, free_follows, go_on_leads)
 follows_after (walking w v todo) a = free_follows (walking w v todo) a (after_visit w v todo a) (free_visit w v todo a)
 follows_after (over reply) a = (inr (inl refl), inr (inl refl))
 
@@ -248,12 +206,10 @@ has_none : (s : State) (step : PlainStep) → file_of step ≡ None → open_of 
 has_none s step none no_open = (λ file e. let no : None ≡ Some file = sym none ∙ e in absurd cc, λ file e. let no : None ≡ Some file = sym no_open ∙ e in absurd cc)
 
 errand_has : (s : State) (errand : Errand) → Has s (errand_step errand)
-errand_has s (make_folder p) = has_none s (steps.MakeDirs p) refl refl
-errand_has s errand = has_none s (errand_step errand) refl refl
+errand_has s errand = grind (arith, has_none)
 
 visit_has : (s : State) (v : Visit) → Has s (visit_step v)
-visit_has s (Enter p level) = has_none s (steps.ReadDir p) refl refl
-visit_has s v = has_none s (visit_step v) refl refl
+visit_has s v = grind (arith, has_none)
 
 abbrev wanted_file : Option PlainStep → Option PlainTemp
 wanted_file None = None
@@ -263,15 +219,9 @@ abbrev wanted_open : Option PlainStep → Option PlainFile
 wanted_open None = None
 wanted_open (Some step) = open_of step
 
+-- what a state needs, the step that it asks for has
 state_has : (s : State) (step : PlainStep) → wants s ≡ Some step → Has s step
-state_has (doing errand s) step w = some_is (Has (doing errand s)) (errand_step errand) step w (errand_has (doing errand s) errand)
-state_has (writing c file rest) step w = some_is (Has (writing c file rest)) (steps.Write file rest) step w (λ f e. e, λ f e. absurd cc)
-state_has (syncing c file) step w = some_is (Has (syncing c file)) (steps.SyncTemp file) step w (λ f e. e, λ f e. absurd cc)
-state_has (persisting c file) step w = some_is (Has (persisting c file)) _ step w (λ f e. e, λ f e. absurd cc)
-state_has (hashing h file bytes) step w = some_is (Has (hashing h file bytes)) _ step w (λ f e. absurd cc, λ f e. e)
-state_has (walking v visit todo) step w = some_is (Has (walking v visit todo)) (visit_step visit) step w (visit_has (walking v visit todo) visit)
-state_has (over reply) step w = let no : None ≡ Some step = w in absurd cc
-state_has s step w = has_none s step (sym (ap wanted_file w)) (sym (ap wanted_open w))
+state_has s step w = grind (arith, some_is, errand_has, visit_has, has_none)
 
 -- a step's temporary file is the state's
 pub wants_file : (s : State) (step : PlainStep) (f : PlainTemp) → wants s ≡ Some step → file_of step ≡ Some f → file_in s ≡ Some f
@@ -283,5 +233,4 @@ wants_open s step f w e = (state_has s step w).1 f e
 
 -- what holds of the errands that a state wants holds of its step
 pub errand_steps : (s : State) (step : PlainStep) (P : PlainStep → Type 0) → IsErrand s → wants s ≡ Some step → ((errand : Errand) → wants s ≡ Some (errand_step errand) → P (errand_step errand)) → P step
-errand_steps (doing errand s) step P e w all = some_is P (errand_step errand) step w (all errand refl)
-errand_steps s step P e w all = absurd e
+errand_steps s step P e w all = grind (arith, some_is)

@@ -1,76 +1,85 @@
--- The disk's answers fit their steps.
-use Rattle.std.proofs.{Common.{◌≡◌, ◌≤◌, ◌==◌, ℕ, Bool, true, false, cond, List, Option, None, Some, length, take, min, length-take, refl, sym, subst, arith}, lemmas.Bool.{eqb-true}}
-use Rattle.std.specs.Prelude.{Result, Ok, Err}
-use Rattle.cacache_core.specs.{declared.errors.Fault.{Fault}, PathNames.{Names}}
-use Rattle.cacache_core.specs.declared.errors.Fault.TheVariants as fault
-use Rattle.cacache_store.specs.{declared.store.plain.{PlainFile.{PlainFile}, PlainTemp.{PlainTemp}}, Plain.{PlainStep, PlainAnswer}, Fits.{Fits}}
+-- The disk's answers fit their steps, also those to steps that failed.
+use Rattle.std.proofs.{lemmas.Grind.{common_steps}, Common.{rules, arith, ◌≡◌, ℕ, Bool, false, List, None, Ok, ap, ◌∙◌, ◌≤◌, Option, length, sym, subst}}
+use Rattle.std.specs.Prelude.{if◌then◌else◌, Result}
+use Rattle.std_io.specs.declared.io.kind.ErrorKind.{ErrorKind}
+use Rattle.cacache_core.specs.{declared.errors.Fault.{Fault}, Paths.{Names}}
+use Rattle.cacache_store.specs.{Plain.{PlainStep, PlainAnswer, Fits}, declared.store.plain.{PlainFile.{PlainFile}, PlainTemp.{PlainTemp}}}
+use Rattle.cacache_system.specs.{declared.call.CallResult.{CallResult, TheVariants.{Failed}}, Seen.{NumberedStep, NumberedAnswer}, AnswersOf.{answer_of, failed_with}}
+use Rattle.cacache_system_model.specs.{Machine.{Machine}, Laws.{step_on, answer_on}, Mirrors.{temps_after}, Chains.{StepMade, temps_left}, callers.Acts.{answer_in, NeedsFit}}
+use Rattle.cacache_system_model.proofs.callers.Files.{file_given}
+use Rattle.cacache_calls.specs.Answers.{bytes_in}
+use Rattle.cacache_disk.specs.{declared.luck.Luck.{Luck}, Tree.{Tree}, Apply.{apply, plain, unless, taken, readable, grown, given, is_there}}
+use Rattle.cacache_value.proofs.Shows.{apply_answer}
 use Rattle.cacache_store.specs.declared.store.step.Step.TheVariants as steps
 use Rattle.cacache_store.specs.declared.store.answer.Answer.TheVariants as answers
-use Rattle.cacache_disk.specs.{declared.luck.Luck.{Luck}, Tree.{Tree}, LedTo.{free, known, kept, replaceable, writable, file_at, found, linked, folder, removable, emptied, dirs}, Apply.{apply, plain, unless, taken, readable, grown, rest_of, given, is_there}}
-use Rattle.cacache_value.proofs.Shows.{apply_answer}
-use Rattle.cacache_system_model.specs.callers.Acts.{NeedsFit}
+
+abbrev pub answer_if : NumberedStep → Fault → Bool → NumberedAnswer
+answer_if step fault b = if b then answers.NoMemory step else answers.Failed fault
+
+abbrev unless_missing : List ℕ → ErrorKind → Bool → NumberedAnswer
+unless_missing p why b = if b then answers.There false else failed_with (steps.Exists p) why
+
+module _ (n : Machine) (P : PlainAnswer → Type 0) (there : P (answers.There false)) (memory : (step : PlainStep) → P (answers.NoMemory step)) (failed : (fault : Fault) → P (answers.Failed fault)) where
+  by_memory : (step : NumberedStep) (fault : Fault) (b : Bool) → P (answer_on n (answer_if step fault b))
+  by_memory step fault b = grind (arith, common_steps)
+
+  by_missing : (p : List ℕ) (why : ErrorKind) (b : Bool) → P (answer_on n (unless_missing p why b))
+  by_missing p why b = grind (arith, by_memory)
+
+  -- what holds of each answer to a failure
+  pub failed_answer : (step : NumberedStep) (why : ErrorKind) → P (answer_on n (answer_of step (Failed why)))
+  failed_answer step why = grind (arith, by_missing, by_memory)
+
+-- ---- what such an answer leaves
+
+keeps_temps : (temps : Names → Bool) (step : PlainStep)
+    → (temps_after temps step (answers.There false) ≡ temps) × (((back : PlainStep) → temps_after temps step (answers.NoMemory back) ≡ temps) × ((fault : Fault) → temps_after temps step (answers.Failed fault) ≡ temps))
+keeps_temps temps step = grind (arith, common_steps)
+
+module _ (made : StepMade) (why : ErrorKind) (is : made.end ≡ Failed why) where
+  abbrev answer_at : CallResult → PlainAnswer
+  answer_at end = answer_on made.after (answer_of made.step end)
+
+  pub failed_temps : (temps : Names → Bool) → temps_left temps made ≡ temps
+  failed_temps temps =
+      let step = step_on made.before made.step in
+      let keeps = keeps_temps temps step in
+      ap (λ (e : CallResult). temps_after temps step (answer_at e)) is
+      ∙ failed_answer made.after (λ a. temps_after temps step a ≡ temps) keeps.0 keeps.1.0 keeps.1.1 made.step why
+
+  pub failed_none : file_given (answer_in made) ≡ None
+  failed_none = search (rules, file_given, failed_answer)
+
+  pub failed_bytes : (bytes : List ℕ) → bytes_in (answer_in made) ≡ Ok bytes → ⊥
+  failed_bytes bytes e = search (rules, failed_answer)
+
+-- ---- the disk's answers fit their steps
 
 taken_below : (most : Option ℕ) (bytes : List ℕ) → taken most bytes ≤ length bytes
-taken_below None bytes = omega arith
-taken_below (Some m) bytes = omega arith
+taken_below most bytes = grind (arith, common_steps)
 
 unless_fits : {A : Type 0} (step : PlainStep) (t : Tree) (r : Result A Fault) (go : A → PlainAnswer × Tree) → ((x : A) → Fits step (go x).0) → Fits step (unless r t go).0
-unless_fits step t (Ok x) go h = h x
-unless_fits step t (Err why) go h = tt
+unless_fits step t r go h = grind (arith, common_steps)
 
 grown_fits : (f : PlainTemp) (bytes : List ℕ) (count : ℕ) (old : Option (List ℕ)) → count ≤ length bytes → Fits (steps.Write f bytes) (grown f bytes count old)
-grown_fits f bytes count None below = tt
-grown_fits f bytes count (Some old) below = (below, refl)
+grown_fits f bytes count old below = grind (arith, common_steps)
 
 there_fits : (p : List ℕ) (r : Result Names Fault) → Fits (steps.Exists p) (is_there r)
-there_fits p (Ok names) = tt
-there_fits p (Err why) = elim why as (λ f. Fits (steps.Exists p) (is_there (Err f))) [ fault.NotFound ↦ tt | fault.NotADirectory ↦ tt | _ ↦ tt ]
+there_fits p r = grind (arith, common_steps)
 
 -- bytes of an open file, no more than are asked for
 given_fits : (f : PlainFile) (most size : ℕ) (o : Option (List ℕ)) → size ≤ most → Fits (steps.Read f most) (given f size o)
-given_fits f most size None below = tt
-given_fits f most size (Some bytes) below = by (f.left == length bytes) refl
-  where
-    by : (b : Bool) → (f.left == length bytes) ≡ b → Fits (steps.Read f most) (cond b (answers.Got (rest_of bytes size) (take size bytes)) (answers.Failed fault.Closed))
-    by true same =
-        let all : f.left ≡ length bytes = eqb-true f.left (length bytes) same in
-        let some : length (take size bytes) ≡ min size (length bytes) = length-take size bytes in
-        (omega (arith, some, below), omega (arith, some, all))
-    by false same = tt
+given_fits f most size o below = grind (arith, common_steps)
 
 read_below : (most : Option ℕ) (size : ℕ) → readable most size ≤ size
-read_below None size = omega arith
-read_below (Some m) size = omega arith
+read_below most size = grind (arith, common_steps)
 
 plain_fits : (t : Tree) (step : PlainStep) (luck : Luck) → ((most : Option ℕ) → Fits step (plain t step most).0) → Fits step (apply t step luck).0
 plain_fits t step luck h = apply_answer (Fits step) (λ why. tt) t step luck h
 
+-- what a tree answers fits the step
 apply_fits : (t : Tree) (step : PlainStep) (luck : Luck) → NeedsFit step (apply t step luck).0 → Fits step (apply t step luck).0
-apply_fits t (steps.MakeDirs p) luck n = plain_fits t (steps.MakeDirs p) luck (λ most. unless_fits (steps.MakeDirs p) t (dirs t p) _ (λ x. tt))
-apply_fits t (steps.CreateTemp p) luck n = plain_fits t (steps.CreateTemp p) luck (λ most. unless_fits (steps.CreateTemp p) t (free t p) _ (λ x. refl))
-apply_fits t (steps.Write f bytes) luck n = plain_fits t (steps.Write f bytes) luck (λ most. grown_fits f bytes (taken most bytes) f.bytes (taken_below most bytes))
-apply_fits t (steps.Persist f p) luck n =
-    plain_fits t (steps.Persist f p) luck (λ most.
-    unless_fits (steps.Persist f p) t (known f.bytes) _ (λ x.
-    unless_fits (steps.Persist f p) t (kept t f.path) _ (λ y. unless_fits (steps.Persist f p) t (replaceable t p) _ (λ z. tt))))
-apply_fits t (steps.Append p bytes) luck n = plain_fits t (steps.Append p bytes) luck (λ most. unless_fits (steps.Append p bytes) t (writable t p) _ (λ x. taken_below most bytes))
-apply_fits t (steps.ReadAll p) luck n = plain_fits t (steps.ReadAll p) luck (λ most. unless_fits (steps.ReadAll p) t (file_at t p fault.IsADirectory) _ (λ x. tt))
-apply_fits t (steps.Read f size) luck n = plain_fits t (steps.Read f size) luck (λ most. given_fits f size (readable most size) f.bytes (read_below most size))
-apply_fits t (steps.Exists p) luck n = plain_fits t (steps.Exists p) luck (λ most. there_fits p (found t p))
-apply_fits t (steps.Size p) luck n = plain_fits t (steps.Size p) luck (λ most. unless_fits (steps.Size p) t (file_at t p fault.IsADirectory) _ (λ x. tt))
-apply_fits t (steps.Symlink target p) luck n = plain_fits t (steps.Symlink target p) luck (λ most. unless_fits (steps.Symlink target p) t (free t p) _ (λ x. tt))
-apply_fits t (steps.Copy p q) luck n =
-    plain_fits t (steps.Copy p q) luck (λ most. unless_fits (steps.Copy p q) t (file_at t p fault.InvalidInput) _ (λ x. unless_fits (steps.Copy p q) t (writable t q) _ (λ y. tt)))
-apply_fits t (steps.Reflink p q) luck n =
-    plain_fits t (steps.Reflink p q) luck (λ most. unless_fits (steps.Reflink p q) t (free t q) _ (λ x. unless_fits (steps.Reflink p q) t (file_at t p fault.IsADirectory) _ (λ y. tt)))
-apply_fits t (steps.HardLink p q) luck n =
-    plain_fits t (steps.HardLink p q) luck (λ most. unless_fits (steps.HardLink p q) t (free t q) _ (λ x. unless_fits (steps.HardLink p q) t (linked t p) _ (λ y. tt)))
-apply_fits t (steps.RemoveFile p) luck n = plain_fits t (steps.RemoveFile p) luck (λ most. unless_fits (steps.RemoveFile p) t (removable t p) _ (λ x. tt))
-apply_fits t (steps.RemoveDir p) luck n = plain_fits t (steps.RemoveDir p) luck (λ most. unless_fits (steps.RemoveDir p) t (emptied t p) _ (λ x. tt))
-apply_fits t (steps.SyncTemp f) luck n = plain_fits t (steps.SyncTemp f) luck (λ most. refl)
-apply_fits t (steps.SyncFile p) luck n = plain_fits t (steps.SyncFile p) luck (λ most. unless_fits (steps.SyncFile p) t (file_at t p fault.IsADirectory) _ (λ x. tt))
-apply_fits t (steps.SyncDir p) luck n = plain_fits t (steps.SyncDir p) luck (λ most. unless_fits (steps.SyncDir p) t (folder t p) _ (λ x. tt))
-apply_fits t step luck n = n
+apply_fits t step luck n = grind (arith, plain_fits, unless_fits, grown_fits, taken_below, given_fits, read_below, there_fits)
 
 pub fits_so : (t : Tree) (step : PlainStep) (luck : Luck) (a : PlainAnswer) → a ≡ (apply t step luck).0 → NeedsFit step a → Fits step a
 fits_so t step luck a is n = subst (Fits step) (sym is) (apply_fits t step luck (subst (NeedsFit step) is n))

@@ -1,16 +1,17 @@
 -- What a step of a call leaves fixed on the machine, and what its record leaves fixed in a history, is alike.
-use Rattle.std.{proofs.Common.{◌≡◌, ◌⊎◌, inl, inr, Bool, true, false, cond, List, ◌++◌, take, refl, sym, ap, subst, ◌∙◌}, specs.Prelude.{Option, None}}
-use Rattle.cacache_core.specs.{declared.errors.Fault.{Fault}, PathNames.{Names}}
+use Rattle.std.proofs.{lemmas.Grind.{common_steps}, Common.{rules, arith, ◌≡◌, ◌⊎◌, inl, inr, Bool, true, false, cond, List, ◌++◌, take, refl, sym, ap, subst, ◌∙◌}}
+use Rattle.std.specs.Prelude.{Option, None}
+use Rattle.cacache_core.specs.{declared.errors.Fault.{Fault}, Paths.{Names}}
 use Rattle.cacache_store.specs.Plain.{PlainStep, PlainAnswer}
 use Rattle.cacache_store.specs.declared.store.step.Step.TheVariants as steps
 use Rattle.cacache_store.specs.declared.store.answer.Answer.TheVariants as answers
 use Rattle.cacache_disk.specs.{declared.luck.Luck.{Luck, TheVariants.{Plain}}, Tree.{Tree, look, same_path, bytes_of}, Apply.{apply}}
 use Rattle.cacache_loss.specs.{Fixing.{Fixed, is_sync, is_synced, moves_file, moved_to, rewrites_at, writes_at, changed, temp_synced, file_synced, folder_synced, fixed_after}, declared.fixing.Place.{Place}}
-use Rattle.cacache_loss.proofs.UnchangedPaths.{file_kept, name_kept}
+use Rattle.cacache_loss.proofs.Reaching.{file_kept, name_kept}
 use Rattle.cacache_calls.specs.declared.reply.Reply.{Reply}
 use Rattle.cacache_system.specs.{declared.call.{CallItem.{CallItem}, CallResult.{CallResult}}, Seen.{NumberedStep}, CallsOf.{Runs}, AnswersOf.{Hint, first, answer_of}}
 use Rattle.cacache_system_model.specs.{Machine.{Machine}, Calls.{OccursSomehow, EachCall}, Laws.{step_on, answer_on, IsLucky}, Premises.{Premise}, Mirrors.{Mirrors, temps_after, SparesOpen}, Chains.{StepMade, temps_left, WritesTemp}, Fixing.{step_made, answer_made, fixed_by, CopiesNone, LosesAsTold}, Writing.{WritesSome}, callers.{Acts.{EndsFailed}, Storing.{IsExplained}}}
-use Rattle.cacache_system_model.proofs.{Covered.{each_may_break, each_goes_plainly}, Steps.Writing.{write_agrees}, Chaining.{memory_stay}, Fixing.{FixesSynced}, Lasting.{made_fixed, syncs_fix, none_anew, failed_moves, memory_moves, write_touched}, Alike.{AlikeWas, AlikeFixed}, Changed.{fixed_alike}, Touching.{Touched, rests, touched}, callers.{Covering.{HasAsked}, Failing.{failed_answer, failed_temps}}}
+use Rattle.cacache_system_model.proofs.{Covered.{each_may_break, each_goes_plainly}, Steps.Writing.{write_agrees}, Chaining.{memory_stay}, Fixing.{FixesSynced}, Lasting.{made_fixed, syncs_fix, none_anew, failed_moves, memory_moves, write_touched}, Alike.{AlikeWas, AlikeFixed}, Changed.{fixed_alike}, Touching.{Touched, rests, touched}, callers.{Covering.{HasAsked}, Fitting.{failed_answer, failed_temps}}}
 
 -- what a step reads, changes and syncs
 pub record StepFacts (temps : Names → Bool) (made : StepMade) : Type 0 where
@@ -38,9 +39,7 @@ module _ (temps : Names → Bool) where
     lucky_touched spares (inl (luck, is)) q =
         subst (λ (r : PlainAnswer × Tree). Touched temps (temps_after temps (step_made made) r.0) made.before.tree r.1 (step_made made) r.0 q) is
         (touched temps made.before.tree q (step_made made) luck spares)
-    lucky_touched spares (inr (inl (is, tree))) q =
-        rests (ap (λ (t : Tree). look t q) tree)
-        (ap (λ (x : Names → Bool). x q) (ap (λ a. temps_after temps (step_made made) (answer_on made.after a)) is ∙ memory_stay temps (step_made made) (step_on made.after made.step)))
+    lucky_touched spares (inr (inl (is, tree))) q = search (rules, rests, memory_stay)
     lucky_touched spares (inr (inr left)) q = absurd (none.2 left)
 
     module _ (reply : Option Reply) (runs : Runs (first made.hint made.step) made.items made.end) (each : EachCall OccursSomehow made.before made.items made.after) where
@@ -72,22 +71,16 @@ IsToldOf made answer =
     (answer ≡ answer_made made) ⊎ ((answer_of made.step made.end ≡ answers.NoMemory made.step) × (fault : Fault) × (answer ≡ answers.Failed fault))
 
 told_moves : (made : StepMade) (answer : PlainAnswer) → IsToldOf made answer → moves_file (step_made made) answer ≡ moves_file (step_made made) (answer_made made)
-told_moves made answer (inl same) = ap (moves_file (step_made made)) same
-told_moves made answer (inr (lost, fault, is)) =
-    ap (moves_file (step_made made)) is ∙ failed_moves (step_made made) fault
-    ∙ sym (ap (λ a. moves_file (step_made made) (answer_on made.after a)) lost ∙ memory_moves (step_made made) (step_on made.after made.step))
+told_moves made answer which = grind (arith, failed_moves, memory_moves)
 
 told_syncs : (made : StepMade) (answer : PlainAnswer) → IsToldOf made answer → is_synced answer ≡ is_synced (answer_made made)
-told_syncs made answer (inl same) = ap is_synced same
-told_syncs made answer (inr (lost, fault, is)) = ap is_synced is ∙ sym (ap (λ a. is_synced (answer_on made.after a)) lost)
+told_syncs made answer which = grind (arith, common_steps)
 
 there_moves : (step : PlainStep) → moves_file step (answers.There false) ≡ None
-there_moves (steps.Persist temp p) = refl
-there_moves step = refl
+there_moves step = grind (arith, common_steps)
 
 no_write : (m : Machine) (hint : Hint) (step : NumberedStep) → Premise m hint step → (q : Names) → writes_at (step_on m step) q ≡ false
-no_write m hint (steps.Write temp more) premise q = absurd premise
-no_write m hint step premise q = refl
+no_write m hint step premise q = grind (arith, common_steps)
 
 module _ (own temps : Names → Bool) (f g : Fixed) (alike : AlikeFixed own f g) where
   changed_still : (t new : Tree) (step : PlainStep) (answer : PlainAnswer) → ((q : Names) → look new q ≡ look t q) → moves_file step answer ≡ None
@@ -115,10 +108,7 @@ module _ (own temps : Names → Bool) (f g : Fixed) (alike : AlikeFixed own f g)
     pub moved_alike : (d : Tree) (luck : Luck) (answer : PlainAnswer) → Mirrors temps made.before.tree d → ((q : Names) → temps q ≡ true → own q ≡ true) → IsToldOf made answer
         → Mirrors (temps_left temps made) made.after.tree (apply d (step_made made) luck).1
         → AlikeFixed own (fixed_by f made) (fixed_after g d (apply d (step_made made) luck).1 (step_made made) answer)
-    moved_alike d luck answer before keeps told mirrors =
-        subst (λ (x : Fixed). AlikeFixed own x (fixed_after g d (apply d (step_made made) luck).1 (step_made made) answer)) fixed_so
-        (fixed_alike own temps (temps_left temps made) made.before.tree d made.after.tree (apply d (step_made made) luck).1 f g (step_made made) (answer_made made) answer
-        before mirrors keeps alike (none_anew made.before made.step none) (told_moves made answer told) (told_syncs made answer told) facts.spares facts.at)
+    moved_alike d luck answer before keeps told mirrors = search (rules, fixed_so, fixed_alike, none_anew, told_moves, told_syncs)
 
     -- a step that failed, and is recorded by the caller giving its call up
     pub failed_alike : (reply : Option Reply) → EndsFailed made reply → Premise made.before made.hint made.step → AlikeFixed own (fixed_by f made) g

@@ -1,17 +1,17 @@
 -- A history follows what callers do on one machine, act by act.
 use Rattle.std.proofs.Common.{◌≡◌, ◌⊎◌, inl, inr, ◌≤◌, ◌+◌, ◌^◌, ◌==◌, ℕ, Bool, true, false, cond, List, [], ◌∷◌, ◌++◌, Option, None, Some, Ok, option_map, refl, sym, ap, subst, ◌∙◌, arith}
-use Rattle.cacache_core.specs.{declared.errors.{Fault.{Fault, TheVariants.{Device}}, Error.TheVariants.{OutOfMemory}}, PathNames.{Names}}
+use Rattle.cacache_core.specs.{declared.errors.{Fault.{Fault, TheVariants.{Device}}, Error.TheVariants.{OutOfMemory}}, Paths.{Names}}
 use Rattle.cacache_store.specs.declared.store.answer.Answer.TheVariants as answers
 use Rattle.cacache_store.specs.Plain.{PlainStep, PlainAnswer}
 use Rattle.cacache_disk.specs.{declared.luck.Luck.{Luck, TheVariants.{Plain, Fail}}, Tree.{Tree, look}, Apply.{apply}}
-use Rattle.cacache_value.specs.OpeningTrees.{LieApart}
+use Rattle.cacache_value.specs.Placed.{LieApart}
 use Rattle.cacache_system.specs.AnswersOf.{answer_of}
 use Rattle.cacache_system_model.specs.{Machine.{Machine}, Laws.{step_on, answer_on, outcome, LeavesFresh}, Mirrors.{Mirrors}, Chains.{StepMade, temps_left, IsMade, OnDisk}, callers.{Acts.{Act, begins, steps as makes, ends, stops, SystemState, EndsFailed, step_of, answer_in, NeedsFit, unless_ended, after_act, after_acts, MakesStep, MayAct, EachMay, IsMoved, IsRecordOf, AreRecordsOf}, Made.{history_of, now_left, AreTemps, CacheOn, CachesBegin, CachesGoOn, system_at, MakesHistory, MakeHistories, SystemsMakeHistories}}}
-use Rattle.cacache_system_model.proofs.{Chaining.{steps_on_disk}, Lasting.{failed_apply}, callers.{OpenTemps.{temps_kept}, Fitting.{fits_so}, Failing.{failed_temps}}}
+use Rattle.cacache_system_model.proofs.{Chaining.{steps_on_disk}, Lasting.{failed_apply}, callers.{OpenTemps.{temps_kept}, Fitting.{fits_so, failed_temps}}}
 use Rattle.cacache_calls.specs.{declared.{command.Command.{Command}, reply.Reply.{Reply, TheVariants.{Refused}}}, State.{State, over}, Table.{wants, after, opening}, Runs.{plain_reply}, Sound.{MayBegin}}
-use Rattle.cacache_calls.proofs.Memory.{no_memory_after}
+use Rattle.cacache_calls.proofs.Going.{no_memory_after}
 use Rattle.cacache_history.specs.{declared.record.Record.{Record, TheVariants.{Began, Moved, Stopped}}, Setup.{Setup, call_site, home, may_export, is_outside}, History.{Call, Now, tree_in, initial, new_call, call_after, unless_over, moved_call, now_after, replayed, Ends, MayMove, MayCome, Legal}}
-use Rattle.cacache_history.proofs.{Headline.{headline}, Histories.{Holding.{AllHold, of_caller, made_proper, next_holds, all_hold, first_holds, replay_more}, Runs.{memory_plain}}}
+use Rattle.cacache_history.proofs.{Headline.{headline}, Histories.{Holding.{AllHold, of_caller, made_proper, next_holds, all_hold, first_holds, replay_more}, Places.{memory_plain}}}
 
 abbrev pub state_of : Call → State
 state_of call = call.state

@@ -1,18 +1,18 @@
 -- A caller's temporary file is open, and holds on the machine what the call's state says.
-use Rattle.std.proofs.{lemmas.Bool.{false_from_ne_true}, Common.{◌≡◌, ◌&&◌, not, ℕ, Bool, true, false, List, [], Option, None, Some, Ok, option_map, refl, sym, ap, subst, ◌∙◌}}
-use Rattle.std.specs.Prelude.{Result, Err, IfOk}
-use Rattle.cacache_core.specs.{Contexts.{fault_of}, declared.errors.Fault.{Fault}, PathNames.{Names, names_of}}
-use Rattle.cacache_store.specs.{declared.store.plain.{PlainFile.{PlainFile}, PlainTemp.{PlainTemp}}, Plain.{PlainStep}, Fits.{Fits}}
+use Rattle.std.proofs.{lemmas.{Grind.{common_steps}, Bool.{false_from_ne_true}}, Common.{arith, ◌≡◌, ◌&&◌, not, ℕ, Bool, true, List, [], Option, None, Some, Ok, option_map, refl, sym, ap, subst, ◌∙◌}}
+use Rattle.std.specs.Prelude.{Result, IfOk}
+use Rattle.cacache_core.specs.{Errors.{fault_of}, declared.errors.Fault.{Fault}, Paths.{Names, names_of}}
+use Rattle.cacache_store.specs.{declared.store.plain.{PlainFile.{PlainFile}, PlainTemp.{PlainTemp}}, Plain.{PlainStep, Fits}}
 use Rattle.cacache_store.specs.declared.store.step.Step.TheVariants as steps
 use Rattle.cacache_store.specs.declared.store.answer.Answer.TheVariants as answers
-use Rattle.cacache_disk.specs.{declared.{luck.Luck.{Luck}, node.Node.{Node, TheVariants.{Folder, File}}}, Tree.{Tree, look, put, same_path, bytes_of}, LedTo.{free}, Apply.{apply, unless, made_temp}, Rooted.{Rooted}}
+use Rattle.cacache_disk.specs.{declared.{luck.Luck.{Luck}, node.Node.{Node, TheVariants.{Folder, File}}}, Tree.{Tree, look, put, same_path, bytes_of, Rooted}, LedTo.{free}, Apply.{apply, unless, made_temp}}
 use Rattle.cacache_disk.proofs.{Maps.{same_path-true}, FoundNodes.{free_ok}}
 use Rattle.cacache_value.specs.{Kinds.{PathKind, Content, Temporary, Elsewhere, path_kind, IsFor}, Placed.{Placed, Proper}}
-use Rattle.cacache_value.proofs.{FoundPaths.{writable_out}, Shows.{apply_answer}}
+use Rattle.cacache_value.proofs.{Applying.{writable_out}, Shows.{apply_answer}}
 use Rattle.cacache_system.specs.{declared.call.CallResult.{CallResult}, Seen.{NumberedFile, NumberedTemp, NumberedStep, NumberedAnswer}, AnswersOf.{Hint, answer_of, refuses_memory}}
 use Rattle.cacache_system.specs.declared.call.CallResult.TheVariants as says
-use Rattle.cacache_system_model.specs.{Machine.{Place, under, OpenFile, node_of, Machine}, OneCall.{IsOpenAt}, Laws.{bytes_in, temp_on, file_on, step_on, answer_on}, Mirrors.{Mirrors, temps_after}, callers.{Storing.{IsHeld, HoldsTemp, HintStands}, Opened.{KeepsOpen, Avoids, IsApart, StillStores}, Seen.{step_seen, handed, handed_open, IsOnHeld}}}
-use Rattle.cacache_system_model.proofs.{Steps.Opening.{file_under}, callers.{WithoutBytes.{step_without}, Failing.{answer_if}, Covering.{still_there, hollow_file}, TreeKept.{Misses, is_elsewhere}, Files.{file_of, open_of, file_given, open_given}, OpenTemps.{with_new_here}, OpenCalls.{place_at}}}
+use Rattle.cacache_system_model.specs.{Machine.{Place, under, OpenFile, node_of, Machine}, StepLaws.{IsOpenAt}, Laws.{bytes_in, temp_on, file_on, step_on, answer_on}, Mirrors.{Mirrors, temps_after}, callers.{Storing.{IsHeld, HoldsTemp, HintStands}, Opened.{KeepsOpen, Avoids, IsApart, StillStores}, Seen.{step_seen, handed, handed_open, IsOnHeld}}}
+use Rattle.cacache_system_model.proofs.{Steps.Opening.{file_under}, callers.{WithoutBytes.{step_without}, Fitting.{answer_if}, Covering.{still_there, hollow_file}, OpenTemps.{Misses, is_elsewhere, with_new_here}, Files.{file_of, open_of, file_given, open_given}, OpenCalls.{place_at}}}
 use Rattle.cacache_folder.proofs.Answering.{temp_of}
 
 -- ---- handles
@@ -109,27 +109,20 @@ module _ (temps : Names → Bool) (m : Machine) (o : Option NumberedTemp) (opene
 
 -- a failure hands out none
 never_wrote : (step : NumberedStep) (fault : Fault) (b : Bool) (t : NumberedTemp) (n : ℕ) → answer_if step fault b ≡ answers.Wrote t n → ⊥
-never_wrote step fault true t n e = cc
-never_wrote step fault false t n e = cc
+never_wrote step fault b t n e = grind (arith, common_steps)
 
 never_synced : (step : NumberedStep) (fault : Fault) (b : Bool) (t : NumberedTemp) → answer_if step fault b ≡ answers.Synced t → ⊥
-never_synced step fault true t e = cc
-never_synced step fault false t e = cc
+never_synced step fault b t e = grind (arith, common_steps)
 
 pub wrote_same : (t u : NumberedTemp) (bytes : List ℕ) (end : CallResult) (n : ℕ) → answer_of (steps.Write t bytes) end ≡ answers.Wrote u n → t ≡ u
-wrote_same t u bytes (says.Count k) n e = cc
-wrote_same t u bytes (says.Failed why) n e = absurd (never_wrote (steps.Write t bytes) (fault_of why) (refuses_memory why && not false) u n e)
-wrote_same t u bytes end n e = absurd cc
+wrote_same t u bytes end n e = grind (arith, never_wrote)
 
 pub synced_same : (t u : NumberedTemp) (end : CallResult) → answer_of (steps.SyncTemp t) end ≡ answers.Synced u → t ≡ u
-synced_same t u says.Done e = cc
-synced_same t u (says.Failed why) e = absurd (never_synced (steps.SyncTemp t) (fault_of why) (refuses_memory why && not true) u e)
-synced_same t u end e = absurd cc
+synced_same t u end e = grind (arith, never_synced)
 
 temp_there : (p : List ℕ) (t : Tree) (r : Result Names Fault) (f : PlainTemp) → ((names : Names) → r ≡ Ok names → names_of p ≡ Ok names)
     → (new : Names → Tree) → (unless r t (λ names. (answers.Temp (made_temp p), new names))).0 ≡ answers.Temp f → (names : Names) × (names_of p ≡ Ok names)
-temp_there p t (Ok names) f named new e = (names, named names refl)
-temp_there p t (Err fault) f named new e = absurd cc
+temp_there p t r f named new e = grind (arith, common_steps)
 
 temp_named : (t : Tree) (p : List ℕ) (luck : Luck) (f : PlainTemp) → (apply t (steps.CreateTemp p) luck).0 ≡ answers.Temp f → (names : Names) × (names_of p ≡ Ok names)
 temp_named t p luck f =
@@ -170,10 +163,7 @@ handed_handle temps m n step (answers.Synced u) o file t luck keeps opens holds 
 handed_handle temps m n step answer o file t luck keeps opens holds wrote synced fits answered e = let no : None ≡ Some file = e in absurd cc
 
 pub handed_none : (n : Machine) (answer : NumberedAnswer) (o : Option NumberedTemp) → file_given (answer_on n answer) ≡ None → handed answer o ≡ o
-handed_none n (answers.Temp u) o e = let no : Some (temp_on n u) ≡ None = e in absurd cc
-handed_none n (answers.Wrote u k) o e = let no : Some (temp_on n u) ≡ None = e in absurd cc
-handed_none n (answers.Synced u) o e = let no : Some (temp_on n u) ≡ None = e in absurd cc
-handed_none n answer o e = refl
+handed_none n answer o e = grind (arith, common_steps)
 
 -- the open file that an answer hands out
 pub handed_file : (n : Machine) (answer : NumberedAnswer) (old : Option (NumberedFile × PlainFile)) (file : PlainFile) → open_given (answer_on n answer) ≡ Some file → IsHanded (handed_open n answer old) file
@@ -182,13 +172,10 @@ handed_file n (answers.Got f bytes) old file e = let same : file_on n f ≡ file
 handed_file n answer old file e = let no : None ≡ Some file = e in absurd cc
 
 pub handed_no_file : (n : Machine) (answer : NumberedAnswer) (old : Option (NumberedFile × PlainFile)) → open_given (answer_on n answer) ≡ None → handed_open n answer old ≡ old
-handed_no_file n (answers.File f) old e = let no : Some (file_on n f) ≡ None = e in absurd cc
-handed_no_file n (answers.Got f bytes) old e = let no : Some (file_on n f) ≡ None = e in absurd cc
-handed_no_file n answer old e = refl
+handed_no_file n answer old e = grind (arith, common_steps)
 
 never_temp : (step : NumberedStep) (fault : Fault) (b : Bool) (u : NumberedTemp) → answer_if step fault b ≡ answers.Temp u → ⊥
-never_temp step fault true u e = cc
-never_temp step fault false u e = cc
+never_temp step fault b u e = grind (arith, common_steps)
 
 pub temp_answer : (p : List ℕ) (u : NumberedTemp) (end : CallResult) → answer_of (steps.CreateTemp p) end ≡ answers.Temp u → (end ≡ says.Opened u.number) × (u.path ≡ p)
 temp_answer p u (says.Opened k) e =
@@ -197,8 +184,7 @@ temp_answer p u (says.Failed why) e = absurd (never_temp (steps.CreateTemp p) (f
 temp_answer p u end e = absurd cc
 
 kind_differs : (h : Option Names) (k : PathKind) (r : Result Names Fault) → (Temporary ≡ k → ⊥) → IfOk r (λ names. path_kind h names ≡ k) → IfOk r (λ names. path_kind h names ≡ Temporary → ⊥)
-kind_differs h k (Ok names) other is = λ e. other (sym e ∙ is)
-kind_differs h k (Err fault) other is = tt
+kind_differs h k r other is = grind (arith, common_steps)
 
 -- what is for something else is no path of a temporary file
 apart_from : (h : Option Names) (q : Names) (k : PathKind) (p : List ℕ) → path_kind h q ≡ Temporary → (Temporary ≡ k → ⊥) → IsFor h k p → Avoids q p
@@ -218,9 +204,7 @@ copies_outside h t q bytes to placed at here out = record {
 module _ (h : Option Names) (temps : Names → Bool) (m : Machine) (d : Tree) (mirrors : Mirrors temps m.tree d) (rooted : Rooted m.tree) where
   -- a step that hands its file back moves and removes nothing
   pub hands_back : (q : Names) (step : NumberedStep) → HoldsTemp temps m step → HandsOut step → StillStores q m step
-  hands_back q (steps.Write t bytes) holds hands = still_there temps m d t mirrors rooted holds
-  hands_back q (steps.SyncTemp t) holds hands = still_there temps m d t mirrors rooted holds
-  hands_back q step holds hands = absurd hands
+  hands_back q step holds hands = grind (arith, still_there)
 
   -- nor does any step at another's temporary file
   pub still_stores : (q : Names) (hint : Hint) (step : NumberedStep) → HoldsTemp temps m step → HintStands m hint step → Placed h m.tree → path_kind h q ≡ Temporary → temps q ≡ true

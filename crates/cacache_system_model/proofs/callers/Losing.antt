@@ -1,10 +1,10 @@
 -- A loss of power leaves on one machine what it leaves of the history of what callers did there.
-use Rattle.std.{proofs.Common.{◌≡◌, ◌⊎◌, inl, inr, ℕ, Bool, true, false, List, [], ◌∷◌, ◌++◌, refl, sym, ap, subst, ◌∙◌}, specs.Prelude.{Option, None, Some}}
-use Rattle.cacache_core.specs.{declared.integrity.digest.Hash.{Hash}, PathNames.{Names}, Paths.{content_names, bucket_names_of}}
-use Rattle.cacache_disk.specs.{declared.node.Node.{Node}, Rooted.{is_folder}, Tree.{Tree, look, bytes_of}, Apply.{apply}}
+use Rattle.std.proofs.{lemmas.Grind.{common_steps}, Common.{rules, arith, ◌≡◌, ◌⊎◌, inl, inr, ℕ, Bool, true, false, List, [], ◌∷◌, ◌++◌, refl, sym, ap, subst}}
+use Rattle.std.specs.Prelude.{Option, None, Some}
+use Rattle.cacache_core.specs.Paths.{Names}
+use Rattle.cacache_disk.specs.{declared.node.Node.{Node}, Tree.{is_folder, Tree, look, bytes_of}, Apply.{apply}}
 use Rattle.cacache_loss.specs.{Fixing.{Fixed, synced, all_fixed, fixed_after}, Loss.{Loss, Lost, lost_at}, LostValues.{HoldsContent}, Moments.{Moment, after, lost_then}}
-use Rattle.cacache_value.specs.{Kinds.{kind_below, path_kind, node_below}, OpeningTrees.{LieApart}, Value.{blob_in, bucket_in, folders_below, value_of_tree}}
-use Rattle.cacache_value.proofs.KindsApart.{kind-below}
+use Rattle.cacache_value.{specs.{Kinds.{kind_below, path_kind, node_below}, Placed.{LieApart}, Value.{folders_below, value_of_tree}}, proofs.PathKinds.{kind-below}}
 use Rattle.cacache_calls.specs.declared.reply.Reply.{Reply}
 use Rattle.cacache_history.specs.{declared.record.Record.{Record, TheVariants.{Began, Moved, Stopped}}, Setup.{Setup, home}, History.{History, Now, now_after}, Values.{steps_of}, AddedEntries.{address_of_put}, durable.Outlasting.{Outlives, LossesLeaveCaches, moment_at}}
 use Rattle.cacache_history.proofs.durable.{Traces.{tree_at}, Outlasting.{histories_outlive}}
@@ -28,9 +28,7 @@ moment t g = record { tree = t; fixed = g }
 
 after_record : (s : Setup) (now : Now) (g : Fixed) (r : Record) (records : List Record)
     → after (moment now.tree g) (steps_of (r ∷ records)) ≡ after (moment (now_after s now r).tree (fixed_record g now.tree r)) (steps_of records)
-after_record s now g (Moved caller luck (Some made) reply) records = refl
-after_record s now g (Moved caller luck None reply) records = refl
-after_record s now g r records = refl
+after_record s now g r records = grind (arith, common_steps)
 
 module _ (s : Setup) (apart : LieApart (home s) s.outside) where
   abbrev own : Names → Bool
@@ -102,15 +100,12 @@ module _ (s : Setup) (apart : LieApart (home s) s.outside) where
 -- ---- what the cache holds after a loss
 
 kept_same : (o : Bool) (a b : Option Node) → o ≡ false → LeavesSame o a b → b ≡ a
-kept_same true a b e same = absurd cc
-kept_same false a b e same = same
+kept_same o a b e same = grind (arith, common_steps)
 
 module _ (h : Option Names) (a b : Tree) (same : (path : Names) → LeavesSame (is_temporary (path_kind h path)) (look a path) (look b path)) where
   below_same : (home : Option Names) → h ≡ home → (names : Names) → is_temporary (kind_below names) ≡ false → node_below home a names ≡ node_below home b names
   below_same None is names none = refl
-  below_same (Some folder) is names none =
-      sym (kept_same (is_temporary (path_kind h (folder ++ names))) (look a (folder ++ names)) (look b (folder ++ names))
-      (ap (λ (x : Option Names). is_temporary (path_kind x (folder ++ names))) is ∙ ap is_temporary (kind-below folder names) ∙ none) (same (folder ++ names)))
+  below_same (Some folder) is names none = search (rules, kept_same, kind-below)
 
   folders_same : (home : Option Names) (names : Names) → folders_below home (λ path. is_folder (look a path)) names ≡ folders_below home (λ path. is_folder (look b path)) names
   folders_same None names = refl
@@ -119,11 +114,7 @@ module _ (h : Option Names) (a b : Tree) (same : (path : Names) → LeavesSame (
       let path : Names = folder ++ name ∷ rest in sym (folder_alike (is_temporary (path_kind h path)) (look a path) (look b path) (same path))
 
   value_same : value_of_tree h a ≡ value_of_tree h b
-  value_same = λ i. record {
-    contents = λ (address : Hash). blob_in (below_same h refl (content_names address) refl i);
-    buckets = λ (digest : List ℕ). bucket_in (below_same h refl (bucket_names_of digest) refl i);
-    folders = λ (names : Names). folders_same h names i;
-  }
+  value_same = search (rules, below_same, folders_same)
 
 -- ---- from a machine on that holds only the outside files
 
@@ -152,8 +143,7 @@ puts_kept h m fixed same outlives folder p loss left is few put lost =
 -- before any record, all is fixed
 first_moment : (s : Setup) (past records : List Record) → past ≡ []
     → moment_at (history_of s (past ++ records)) (past ++ records) ≡ after (moment (now_left s past).tree (all_fixed (now_left s past).tree)) (steps_of records)
-first_moment s [] records none = refl
-first_moment s (r ∷ past) records none = absurd cc
+first_moment s past records none = grind (arith, common_steps)
 
 pub storing_lose : StoringLose
 storing_lose s m cache acts nothing free none each =

@@ -1,21 +1,21 @@
 -- What a step leaves of the handles and paths of all callers.
-use Rattle.std.proofs.{Common.{◌≡◌, ◌⊎◌, inl, inr, ◌≤◌, ◌<◌, ◌^◌, ◌==◌, ℕ, Bool, true, false, cond, List, [], Option, None, Some, Ok, option_map, refl, sym, ap, subst, ◌∙◌, arith}, lemmas.Bool.{eqb-true, eqb-false}}
+use Rattle.std.proofs.{lemmas.Grind.{common_steps}, Common.{rules, ◌≡◌, ◌⊎◌, inl, inr, ◌≤◌, ◌<◌, ◌^◌, ◌==◌, ℕ, Bool, false, cond, List, [], Option, None, Some, Ok, option_map, refl, sym, ap, subst, ◌∙◌, arith}}
 use Rattle.std.specs.Prelude.{Err}
-use Rattle.cacache_core.specs.{declared.errors.Fault.{Fault}, PathNames.{Names, names_of}}
-use Rattle.cacache_store.specs.{declared.store.{plain.{PlainFile.{PlainFile}, PlainTemp.{PlainTemp}}, answer.Name.{Name}}, Plain.{PlainStep, PlainAnswer}, Fits.{Fits, AreProperNames}}
+use Rattle.cacache_core.specs.{declared.errors.Fault.{Fault}, Paths.{Names, names_of}}
+use Rattle.cacache_store.specs.{declared.store.{plain.{PlainFile.{PlainFile}, PlainTemp.{PlainTemp}}, answer.Name.{Name}}, Plain.{PlainStep, PlainAnswer, Fits, AreProperNames}}
 use Rattle.cacache_store.specs.declared.store.step.Step.TheVariants as steps
 use Rattle.cacache_store.specs.declared.store.answer.Answer.TheVariants as answers
-use Rattle.cacache_disk.specs.{declared.{luck.Luck.{Luck}, node.Node.TheVariants.{Folder, File}}, Tree.{look}, Apply.{apply}, Rooted.{Rooted}}
+use Rattle.cacache_disk.specs.{declared.{luck.Luck.{Luck}, node.Node.TheVariants.{Folder, File}}, Tree.{look, Rooted}, Apply.{apply}}
 use Rattle.cacache_loss.specs.Fixing.{is_at}
-use Rattle.cacache_value.specs.{Kinds.{Temporary, path_kind}, OpeningTrees.{LieApart}, Placed.{Placed, Proper}}
-use Rattle.cacache_calls.specs.{declared.{reply.Reply.{Reply}, carried.Lookup.{Lookup}}, Answers.{bytes_in as bytes_answered, names_in}, Looking.{found_in}, Common.{errand_step}, State.{State, doing, writing, syncing, persisting, looking, Site, Errand, remove}, StepPaths.{temp_path, bucket_path}, Sound.{IsTemp, Allowed, Sound}, Table.{wants, after}}
+use Rattle.cacache_value.specs.{Kinds.{Temporary, path_kind}, Placed.{LieApart, Placed, Proper}}
+use Rattle.cacache_calls.specs.{declared.{reply.Reply.{Reply}, carried.Lookup.{Lookup}}, Answers.{bytes_in as bytes_answered, names_in}, Reading.{found_in}, Common.{errand_step}, State.{State, doing, writing, syncing, persisting, looking, Site, Errand}, Steps.{temp_path, bucket_path}, Sound.{IsTemp, Allowed, Sound}, Table.{wants, after}}
 use Rattle.cacache_calls.proofs.Sound.{steps_allowed}
 use Rattle.cacache_calls.specs.declared.answers.Refusal.TheVariants as refusals
 use Rattle.cacache_history.specs.{declared.record.Record.{Record, TheVariants.{Moved}}, Setup.{Setup, call_site, home, may_export, is_outside}, History.{Call, Now, now_after, MayMove, MayCome}}
-use Rattle.cacache_history.proofs.{Histories.Holding.{CallHolds, of_caller}, Entries.Spelled.{HasIntegrity}, Proper.{sound_proper}, Listings.ListingWalks.{proper_names}, durable.CallNumbers.{Numbered, next_numbered, number_below, numbers_apart, temps_apart}}
+use Rattle.cacache_history.proofs.{Histories.Holding.{CallHolds, of_caller}, Entries.Spelled.{HasIntegrity}, StepActs.{sound_proper}, Listings.ListingWalks.{proper_names}, durable.CallNumbers.{Numbered, next_numbered, number_below, numbers_apart, temps_apart}}
 use Rattle.cacache_system.specs.{declared.call.CallResult.{CallResult}, Seen.{NumberedFile, NumberedTemp, NumberedStep, NumberedAnswer}, CallsOf.{Runs}, AnswersOf.{first, answer_of}}
-use Rattle.cacache_system_model.specs.{Machine.{Machine}, OneCall.{IsOpenAt}, Laws.{answer_on}, Mirrors.{hollow, Mirrors}, Chains.{StepMade, temps_left}, callers.{Acts.{IsRecordOf, steps as makes, SystemState, step_of, answer_in, NeedsFit, set_state, unless_ended}, Storing.{Stores, HoldsTemp, MakesStoringStep}, Opened.{KeepsOpen, StillStores}, Seen.{handed, handed_open, held_after, open_after}}}
-use Rattle.cacache_system_model.proofs.{Mirroring.{shapes}, callers.{NextActs.{NumberedState, numbered_after, MakesNextStep}, Failing.{failed_none, failed_bytes}, OtherTemps.{explained, placed_same, asked_stays}, Covering.{rooted_same, has_asked}, Following.{Agree, has_call, Follows}, Files.{file_in, open_in, file_of, open_of, file_given, open_given, IsErrand, From, Follows as StateFollows, follows_after, wants_file, wants_open, errand_steps}, StayingOpen.{runs_keep_open, made_open}, PathsOf.{HasPaths, wants_apart, paths_after, bucket_has}, TreeKept.{Misses}, Removals.{removes_miss}, Handles.{Handle, IsHanded, next_on, holds_on, handle_kept, wrote_same, synced_same, handed_handle, handed_none, handed_file, handed_no_file, temp_answer, hands_back, still_stores}, OpenTemps.{temps_spare}}}
+use Rattle.cacache_system_model.specs.{Machine.{Machine}, StepLaws.{IsOpenAt}, Laws.{answer_on}, Mirrors.{hollow, Mirrors}, Chains.{StepMade, temps_left}, callers.{Acts.{IsRecordOf, steps as makes, SystemState, step_of, answer_in, NeedsFit, set_state, unless_ended}, Storing.{Stores, HoldsTemp, MakesStoringStep}, Opened.{KeepsOpen, StillStores}, Seen.{handed, handed_open, held_after, open_after}}}
+use Rattle.cacache_system_model.proofs.{Mirroring.{shapes}, callers.{NextActs.{NumberedState, numbered_after, MakesNextStep}, Fitting.{failed_none, failed_bytes}, OtherTemps.{explained, placed_same, asked_stays}, Covering.{rooted_same, has_asked}, Following.{Agree, has_call, Follows}, Files.{file_in, open_in, file_of, open_of, file_given, open_given, IsErrand, From, Follows as StateFollows, follows_after, wants_file, wants_open, errand_steps}, StayingOpen.{runs_keep_open, made_open}, PathsOf.{HasPaths, wants_apart, paths_after, bucket_has}, OpenTemps.{Misses, temps_spare}, ListCalls.{removes_miss}, Handles.{Handle, IsHanded, next_on, holds_on, handle_kept, wrote_same, synced_same, handed_handle, handed_none, handed_file, handed_no_file, temp_answer, hands_back, still_stores}}}
 
 -- ---- whose a temporary file is
 
@@ -30,11 +30,7 @@ sound_file site may outside s file sound e = let no : None ≡ Some file = e in 
 -- a step of another call isn't about it
 others_miss : (s : Setup) (a b : ℕ) (file : List ℕ) (q : Names) → a < 2 ^ 64 → b < 2 ^ 64 → (a ≡ b → ⊥) → file ≡ temp_path s.cache a → names_of file ≡ Ok q → path_kind (home s) q ≡ Temporary
     → (step : PlainStep) → Allowed (call_site s b) (may_export s) (is_outside s) step → ((p : List ℕ) → step ≡ steps.RemoveFile p → is_at (names_of p) q ≡ false) → Misses q step
-others_miss s a b file q few less differ own named at (steps.CreateTemp p) allowed removes = temps_apart s.cache a b file p q few less differ own allowed named
-others_miss s a b file q few less differ own named at (steps.Write f bytes) allowed removes = temps_apart s.cache a b file f.path q few less differ own allowed named
-others_miss s a b file q few less differ own named at (steps.Persist f p) allowed removes = temps_apart s.cache a b file f.path q few less differ own allowed.0 named
-others_miss s a b file q few less differ own named at (steps.RemoveFile p) allowed removes = removes p refl
-others_miss s a b file q few less differ own named at step allowed removes = tt
+others_miss s a b file q few less differ own named at step allowed removes = grind (arith, own, allowed, temps_apart)
 
 handle_named : (temps : Names → Bool) (m : Machine) (o : Option NumberedTemp) (file : PlainTemp) → (g : Handle temps m o file) → names_of file.path ≡ Ok g.held.names
 handle_named temps m o file g = ap (λ (x : PlainTemp). names_of x.path) (sym g.same) ∙ g.held.named
@@ -72,18 +68,10 @@ ended_some None (Some state) old new a is e =
 
 at_caller : {A : Type 0} (P : Option A → Option State → Type 0) (k caller : ℕ) (ox oy : Option A) (x y : Option State) → (k ≡ caller → P ox x) → ((k ≡ caller → ⊥) → P oy y)
     → P (cond (k == caller) ox oy) (cond (k == caller) x y)
-at_caller P k caller ox oy x y here there = by (k == caller) refl
-  where
-    by : (b : Bool) → (k == caller) ≡ b → P (cond b ox oy) (cond b x y)
-    by true e = here (eqb-true k caller e)
-    by false e = there (eqb-false k caller e)
+at_caller P k caller ox oy x y here there = search rules
 
 pub at_state : (P : Option State → Type 0) (k caller : ℕ) (x y : Option State) → (k ≡ caller → P x) → ((k ≡ caller → ⊥) → P y) → P (cond (k == caller) x y)
-at_state P k caller x y here there = by (k == caller) refl
-  where
-    by : (b : Bool) → (k == caller) ≡ b → P (cond b x y)
-    by true e = here (eqb-true k caller e)
-    by false e = there (eqb-false k caller e)
+at_state P k caller x y here there = search rules
 
 pub no_paths : (h : Option Names) → PathsAt h None
 no_paths h state e = let no : None ≡ Some state = e in absurd cc
@@ -145,21 +133,7 @@ module _ (s : Setup) (apart : LieApart (home s) s.outside) (f : NumberedState) (
     stores = apart_of (step_of made) wants_asked
 
     pub makes_storing_step : MakesStoringStep (home s) w caller made reply
-    makes_storing_step = record {
-      state = m.state;
-      stands = m.stands;
-      here = m.here;
-      wanted = wants_asked;
-      stores = stores;
-      holds = holds;
-      runs = m.runs;
-      each = m.each;
-      luck = m.luck;
-      hint = m.hint;
-      clean = m.clean;
-      fits = m.fits;
-      over = m.over;
-    }
+    makes_storing_step = search (rules, wants_asked, stores, holds)
 
     wanted_own : wants own.0.state ≡ Some (step_of made)
     wanted_own = ap wants own.2 ∙ wants_asked
@@ -218,8 +192,7 @@ module _ (s : Setup) (apart : LieApart (home s) s.outside) (f : NumberedState) (
 
     errand_misses : (q : Names) → ((p : List ℕ) → wants m.state ≡ Some (steps.RemoveFile p) → is_at (names_of p) q ≡ false) → (errand : Errand) → wants m.state ≡ Some (errand_step errand)
         → Misses q (errand_step errand)
-    errand_misses q removes (remove p) wanted = removes p wanted
-    errand_misses q removes errand wanted = tt
+    errand_misses q removes errand wanted = grind (arith, common_steps)
 
     stayed_own : (file : PlainTemp) → file_in m.state ≡ Some file → file_given (answer_in made) ≡ None → IsErrand m.state
         → Handle (temps_left w.temps made) made.after (handed (answer_of made.step made.end) (f.held caller)) file
@@ -232,18 +205,14 @@ module _ (s : Setup) (apart : LieApart (home s) s.outside) (f : NumberedState) (
     -- a file of the state behind the answer, which was handed out or stayed
     own_file : {A : Type 0} (Good : A → Type 0) (new given before : Option A) → From new given before m.state → ((file : A) → given ≡ Some file → Good file)
         → ((file : A) → before ≡ Some file → given ≡ None → IsErrand m.state → Good file) → (file : A) → new ≡ Some file → Good file
-    own_file Good new given before (inl same) gave stayed file e = gave file (sym same ∙ e)
-    own_file Good new given before (inr (inl none)) gave stayed file e = let no : None ≡ Some file = sym none ∙ e in absurd cc
-    own_file Good new given before (inr (inr (same, none, errand))) gave stayed file e = stayed file (sym same ∙ e) none errand
+    own_file Good new given before which gave stayed file e = grind (arith, common_steps)
 
     new_follows : (new : State) → unless_ended reply (option_map (λ (state : State). after state (answer_in made)) (w.states caller)) ≡ Some new → StateFollows m.state (answer_in made) new
     new_follows new e = subst (StateFollows m.state (answer_in made)) (ended_some reply (w.states caller) m.state new (answer_in made) m.stands e) (follows_after m.state (answer_in made))
 
     own_handles : ((file : PlainTemp) → file_given (answer_in made) ≡ Some file → Handle (temps_left w.temps made) made.after (handed (answer_of made.step made.end) (f.held caller)) file)
         → HasHandle (temps_left w.temps made) made.after (handed (answer_of made.step made.end) (f.held caller)) (unless_ended reply (option_map (λ (state : State). after state (answer_in made)) (w.states caller)))
-    own_handles given new e file is =
-        own_file (Handle (temps_left w.temps made) made.after (handed (answer_of made.step made.end) (f.held caller))) (file_in new) (file_given (answer_in made)) (file_in m.state) (new_follows new e).0
-        given stayed_own file is
+    own_handles given new e file is = search (rules, own_file, file_in, file_given, new_follows, stayed_own)
 
     own_open : HasOpen (handed_open made.after (answer_of made.step made.end) (f.opened caller)) (unless_ended reply (option_map (λ (state : State). after state (answer_in made)) (w.states caller)))
     own_open new e file is =
@@ -253,10 +222,7 @@ module _ (s : Setup) (apart : LieApart (home s) s.outside) (f : NumberedState) (
         (all.opens caller m.state m.stands old before)) file is
 
     moved_open : (k : ℕ) → HasOpen (open_after f.opened (makes caller made reply) k) (set_state caller (unless_ended reply (option_map (λ (state : State). after state (answer_in made)) (w.states caller))) w.states k)
-    moved_open k =
-        at_caller HasOpen k caller (handed_open made.after (answer_of made.step made.end) (f.opened caller)) (f.opened k)
-        (unless_ended reply (option_map (λ (state : State). after state (answer_in made)) (w.states caller))) (w.states k)
-        (λ same. own_open) (λ differ. all.opens k)
+    moved_open k = search (rules, at_caller, own_open)
 
     -- other calls
     other_handles : (k : ℕ) → (k ≡ caller → ⊥) → HasHandle (temps_left w.temps made) made.after (f.held k) (w.states k)
@@ -276,10 +242,7 @@ module _ (s : Setup) (apart : LieApart (home s) s.outside) (f : NumberedState) (
 
     moved_handles : ((file : PlainTemp) → file_given (answer_in made) ≡ Some file → Handle (temps_left w.temps made) made.after (handed (answer_of made.step made.end) (f.held caller)) file)
         → (k : ℕ) → HasHandle (temps_left w.temps made) made.after (held_after f.held (makes caller made reply) k) (set_state caller (unless_ended reply (option_map (λ (state : State). after state (answer_in made)) (w.states caller))) w.states k)
-    moved_handles given k =
-        at_caller (HasHandle (temps_left w.temps made) made.after) k caller (handed (answer_of made.step made.end) (f.held caller)) (f.held k)
-        (unless_ended reply (option_map (λ (state : State). after state (answer_in made)) (w.states caller))) (w.states k)
-        (λ same. own_handles given) (λ differ. other_handles k differ)
+    moved_handles given k = search (rules, at_caller, own_handles, other_handles)
 
     lost_none : answer_of made.step made.end ≡ answers.NoMemory made.step → file_given (answer_in made) ≡ None
     lost_none lost = ap (λ (a : NumberedAnswer). file_given (answer_on made.after a)) lost

@@ -1,8 +1,8 @@
 -- Callers as a store of real folders has them, on one machine: their temporary files hold there what their states say.
-use Rattle.std.proofs.Common.{◌≡◌, ◌≤◌, ◌^◌, ◌+◌, ℕ, List, [], ◌∷◌, Option, None, Some, sym, ap, subst, ◌∙◌}
-use Rattle.cacache_value.specs.OpeningTrees.{LieApart}
+use Rattle.std.proofs.Common.{rules, arith, ◌≡◌, ◌≤◌, ◌^◌, ◌+◌, ℕ, List, [], ◌∷◌, Option, None, Some, sym, ap, subst, ◌∙◌}
+use Rattle.cacache_value.specs.Placed.{LieApart}
 use Rattle.cacache_calls.specs.{declared.{command.Command.{Command}, reply.Reply.{Reply}}, Table.{opening}, Sound.{MayBegin}}
-use Rattle.cacache_history.specs.{declared.record.Record.{Record}, Setup.{Setup, call_site, home, may_export, is_outside}, History.{Now, now_after, replayed, NamesIntegrity, initial}}
+use Rattle.cacache_history.specs.{declared.record.Record.{Record}, Setup.{Setup, call_site, home, may_export, is_outside}, History.{Now, now_after, replayed, NamesIntegrity}}
 use Rattle.cacache_history.proofs.durable.CallNumbers.{Numbered, next_numbered, first_numbered}
 use Rattle.cacache_system.specs.Seen.{NumberedFile, NumberedTemp}
 use Rattle.cacache_store.specs.declared.store.plain.PlainFile.{PlainFile}
@@ -43,31 +43,14 @@ module _ (s : Setup) (apart : LieApart (home s) s.outside) (f : NumberedState) (
   few_now = subst (λ (n : ℕ). n ≤ 2 ^ 64) (sym all.agree.begun) all.few
 
   over_holds : (caller : ℕ) (reply : Reply) → (g : Follows s w now (ends caller reply)) → Holds s (numbered_after s f (ends caller reply)) (now_after s now g.r)
-  over_holds caller reply g = record {
-    agree = g.agree;
-    numbered = next_numbered s now g.r all.numbered;
-    few = subst (λ (n : ℕ). n ≤ 2 ^ 64) g.agree.begun few_now;
-    handles = λ k. at_state (HasHandle w.temps w.machine (f.held k)) k caller None (w.states k) (λ same. no_state w.temps w.machine (f.held k)) (λ differ. all.handles k);
-    opens = λ k. at_state (HasOpen (f.opened k)) k caller None (w.states k) (λ same. no_open (f.opened k)) (λ differ. all.opens k);
-    paths = λ k. at_state (PathsAt (home s)) k caller None (w.states k) (λ same. no_paths (home s)) (λ differ. all.paths k);
-  }
+  over_holds caller reply g = search (rules, next_numbered, few_now, at_state, no_state, no_open, no_paths)
 
   stop_holds : (caller : ℕ) → (g : Follows s w now (stops caller)) → Holds s (numbered_after s f (stops caller)) (now_after s now g.r)
-  stop_holds caller g = record {
-    agree = g.agree;
-    numbered = next_numbered s now g.r all.numbered;
-    few = subst (λ (n : ℕ). n ≤ 2 ^ 64) g.agree.begun few_now;
-    handles = λ k. at_state (HasHandle w.temps w.machine (f.held k)) k caller None (w.states k) (λ same. no_state w.temps w.machine (f.held k)) (λ differ. all.handles k);
-    opens = λ k. at_state (HasOpen (f.opened k)) k caller None (w.states k) (λ same. no_open (f.opened k)) (λ differ. all.opens k);
-    paths = λ k. at_state (PathsAt (home s)) k caller None (w.states k) (λ same. no_paths (home s)) (λ differ. all.paths k);
-  }
+  stop_holds caller g = search (rules, next_numbered, few_now, at_state, no_state, no_open, no_paths)
 
   -- an act is one whose steps have what `MayStore` asks
   pub may_store : (act : Act) → MayNext s f act → MayStore s w act
-  may_store (begins caller command) (may, few) = may
-  may_store (makes caller made reply) m = makes_storing_step s apart f now all caller made reply m
-  may_store (ends caller reply) may = may
-  may_store (stops caller) may = may
+  may_store act may = grind (arith, makes_storing_step)
 
   pub next_act : (act : Act) → MayNext s f act → (g : Follows s w now act) × Holds s (numbered_after s f act) (now_after s now g.r)
   next_act (begins caller command) (may, few) =
@@ -82,12 +65,6 @@ all_numbered : (s : Setup) (now : Now) (records : List Record) → Numbered now 
 all_numbered s now [] h = h
 all_numbered s now (r ∷ records) h = all_numbered s (now_after s now r) records (next_numbered s now r h)
 
+-- at first all of it holds
 pub first_holds : (s : Setup) (m : Machine) (cache : CacheOn s m) → Holds s (record { system = system_at s m cache; held = λ caller. None; opened = λ caller. None }) (now_left s cache.past)
-first_holds s m cache = record {
-  agree = first_agree s m cache;
-  numbered = all_numbered s (initial s) cache.past (first_numbered s);
-  few = cache.few;
-  handles = λ k. no_state cache.temps m None;
-  opens = λ k. no_open None;
-  paths = λ k. no_paths (home s);
-}
+first_holds s m cache = search (rules, first_agree, all_numbered, first_numbered, no_state, no_open, no_paths)

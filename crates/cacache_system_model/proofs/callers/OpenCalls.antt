@@ -1,15 +1,15 @@
 -- Files that are open stay open at their names through a call.
-use Rattle.std.proofs.{Common.{◌≡◌, ◌==◌, ℕ, Bool, true, false, cond, List, Option, None, Some, Ok, option_map, take, refl, sym, ap, subst, ◌∙◌}, lemmas.Bool.{eqb-true, false_from_ne_true}}
+use Rattle.std.proofs.{lemmas.{Grind.{common_steps}, Bool.{eqb-true, false_from_ne_true}}, Common.{rules, arith, ◌≡◌, ◌==◌, ℕ, Bool, true, false, cond, List, Option, None, Some, Ok, option_map, take, sym, ap, subst, ◌∙◌}}
 use Rattle.std.specs.Prelude.{Result, Err, MatchResult, if◌then◌else◌}
 use Rattle.std_io.specs.declared.io.kind.ErrorKind.{ErrorKind}
-use Rattle.cacache_core.specs.{declared.errors.Fault.{Fault, TheVariants.{InvalidInput}}, PathNames.{Names}}
+use Rattle.cacache_core.specs.{declared.errors.Fault.{Fault, TheVariants.{InvalidInput}}, Paths.{Names}}
 use Rattle.cacache_disk.specs.{declared.{luck.Luck.TheVariants.{Plain, Fail, Take}, node.Node.{Node, TheVariants.{Folder, File, Link}}}, Tree.{Tree, look, same_path}, LedTo.{standing, leads, found, place, replaceable, removable, emptied, linked, file_at, writable, free}, Apply.{taken, readable}}
 use Rattle.cacache_disk.proofs.{Maps.{same_path-true}, FoundNodes.{place_ok, replaceable_ok, removable_ok, emptied_ok}}
-use Rattle.cacache_loss.proofs.UnchangedPaths.{at_names}
+use Rattle.cacache_loss.proofs.Reaching.{at_names}
 use Rattle.cacache_system.specs.{declared.call.{SystemCall.{SystemCall}, CallResult.{CallResult}}, CallsOf.{already_exists}}
 use Rattle.cacache_system.specs.declared.call.SystemCall.TheVariants as asks
 use Rattle.cacache_system.specs.declared.call.CallResult.TheVariants as says
-use Rattle.cacache_system_model.specs.{Machine.{Place, under, nameless, OpenFile, node_of, Machine, gone, moved, grown, with_place, placed, fixes, Became, IsRefused, ChangesTree, ChangesPlaces, OpensIf, with_sync, unread, ShowsNode, ShowsEnd, ShowsPlace, ShowsOpen, ReadsFile, ReadsOpen, Grows, LinksNode, CopiesBytes, found_bytes, SpellsEnd, MovesNode}, Calls.{GoesWell, did_nothing, PartWritten, LeavesWritten, LeavesCreated, LeavesPart, OccursSomehow}, OneCall.{IsOpenAt}, callers.Opened.{KeepsOpen, Avoids}}
+use Rattle.cacache_system_model.specs.{Machine.{Place, under, nameless, OpenFile, node_of, Machine, gone, moved, with_place, placed, fixes, Became, IsRefused, ChangesTree, ChangesPlaces, OpensIf, with_sync, ShowsNode, ShowsEnd, ShowsPlace, ShowsOpen, ReadsFile, ReadsOpen, Grows, LinksNode, CopiesBytes, found_bytes, SpellsEnd, MovesNode}, Calls.{GoesWell, did_nothing, PartWritten, LeavesWritten, LeavesCreated, LeavesPart, OccursSomehow}, StepLaws.{IsOpenAt}, callers.Opened.{KeepsOpen, Avoids}}
 use Rattle.cacache_system_model.proofs.Steps.Opening.{open_of}
 
 abbrev pub place_at : OpenFile → Place
@@ -35,20 +35,17 @@ opened_keeps files number k file place false e none is = is
 
 read_keeps : (files : ℕ → Option OpenFile) (number k : ℕ) (file old : OpenFile) (place : Place) (b : Bool) → (k == number) ≡ b → files number ≡ Some old → file.place ≡ old.place
     → option_map place_at (files k) ≡ Some place → option_map place_at (cond b (Some file) (files k)) ≡ Some place
-read_keeps files number k file old place true e here same is = ap Some same ∙ sym (ap (option_map place_at) (ap files (eqb-true k number e) ∙ here)) ∙ is
-read_keeps files number k file old place false e here same is = is
+read_keeps files number k file old place b e here same is = grind (arith, common_steps)
 
 -- ---- places that others may have afterwards
 
 placed_keeps : (other : Place → Place) (place : Place) (o : Option OpenFile) → other place ≡ place → option_map place_at o ≡ Some place
     → option_map place_at (option_map (with_place other) o) ≡ Some place
-placed_keeps other place None same is = absurd cc
-placed_keeps other place (Some file) same is = let here : file.place ≡ place = cc in ap (λ (p : Place). Some (other p)) here ∙ ap Some same
+placed_keeps other place o same is = grind (arith, common_steps)
 
 -- the open files are placed anew, but not those at this place
 others_placed : (other : Place → Place) (place : Place) (m n : Machine) → other place ≡ place → n.files ≡ placed other m.files → Keeps place m n
-others_placed other place m n same files number is =
-    ap (λ (fs : ℕ → Option OpenFile). option_map place_at (fs number)) files ∙ placed_keeps other place (m.files number) same is
+others_placed other place m n same files number is = search (rules, placed_keeps)
 
 gone_elsewhere : (was : Option Node) (names q : Names) (mark : ℕ) → same_path q names ≡ false → gone was names mark (under q) ≡ under q
 gone_elsewhere was names q mark apart = ap (λ (b : Bool). if b then nameless mark was else under q) apart
@@ -62,29 +59,23 @@ refused_keeps : (fault : Fault) (place : Place) (m n : Machine) (said : CallResu
 refused_keeps fault place m n said (why, is_said, is, memory, stays) = keeps_self place m n stays
 
 opens_keep : (ends : Result Names Fault) (new : Names → Tree) (place : Place) (m n : Machine) (said : CallResult) → OpensIf ends new m said n → Keeps place m n
-opens_keep (Ok names) new place m n said (number, is_said, none, (tree, files, synced, folders)) =
-    λ k is. ap (λ (fs : ℕ → Option OpenFile). option_map place_at (fs k)) files ∙ opened_keeps m.files number k (unread names) place (k == number) refl none.0 is
-opens_keep (Err fault) new place m n said h = refused_keeps fault place m n said h
+opens_keep ends new place m n said h = grind (arith, opened_keeps, refused_keeps)
 
 changes_keep : (ends : Result Names Fault) (new : Names → Tree) (place : Place) (m n : Machine) (said : CallResult) → ChangesTree ends new m said n → Keeps place m n
-changes_keep (Ok names) new place m n said (is_said, (tree, files, synced, folders)) = keeps_same place m n files
-changes_keep (Err fault) new place m n said h = refused_keeps fault place m n said h
+changes_keep ends new place m n said h = grind (arith, keeps_same, refused_keeps)
 
 places_keep : (ends : Result Names Fault) (new : Names → Tree) (other : Option Node → Names → ℕ → Place → Place) (place : Place) (m n : Machine) (said : CallResult)
     → ((names : Names) (mark : ℕ) → ends ≡ Ok names → other (look m.tree names) names mark place ≡ place) → ChangesPlaces ends new other m said n → Keeps place m n
-places_keep (Ok names) new other place m n said stays (mark, is_said, (tree, files, synced, folders)) = others_placed (other (look m.tree names) names mark) place m n (stays names mark refl) files
-places_keep (Err fault) new other place m n said stays h = refused_keeps fault place m n said h
+places_keep ends new other place m n said stays h = grind (arith, others_placed, refused_keeps)
 
 pub node_keeps : (names : Names) (m n : Machine) (said : CallResult) → ShowsNode names m said n → n ≡ m
 node_keeps names m n said (info, is_said, describes, same) = same
 
 place_keeps : (place : Place) (m n : Machine) (said : CallResult) → ShowsPlace place m said n → n ≡ m
-place_keeps (under names) m n said h = node_keeps names m n said h
-place_keeps (nameless mark here) m n said (info, is_said, describes, same) = same
+place_keeps at m n said h = grind (arith, node_keeps)
 
 shows_keep : (ends : Result Names Fault) (place : Place) (m n : Machine) (said : CallResult) → ShowsEnd ends m said n → Keeps place m n
-shows_keep (Ok names) place m n said h = keeps_self place m n (node_keeps names m n said h)
-shows_keep (Err fault) place m n said h = refused_keeps fault place m n said h
+shows_keep ends place m n said h = grind (arith, keeps_self, node_keeps, refused_keeps)
 
 -- it can be read: no link stands there
 abbrev pub CanRead : Option Node → Type 0
@@ -102,10 +93,7 @@ read_self m n same = (λ place. keeps_self place m n same, ap (λ (x : Machine).
 
 file_read : (pick : List ℕ → List ℕ) (number : ℕ) (file : OpenFile) (here : Option Node) (m n : Machine) (said : CallResult) → m.files number ≡ Some file → CanRead here
     → ReadsFile pick number file here m said n → ReadLeft m n
-file_read pick number file (Some Folder) m n said is can (why, is_said, of, memory, stays) = read_self m n stays
-file_read pick number file (Some (File bytes)) m n said is can (is_said, (tree, files, synced, folders)) =
-    (λ place k e. ap (λ (fs : ℕ → Option OpenFile). option_map place_at (fs k)) files ∙ read_keeps m.files number k _ file place (k == number) refl is refl e, tree)
-file_read pick number file here m n said is can h = absurd can
+file_read pick number file here m n said is can h = grind (arith, read_self, read_keeps)
 
 abbrev pub IsOpenNumber : Machine → ℕ → Type 0
 IsOpenNumber m number = (place : Place) × (option_map place_at (m.files number) ≡ Some place)
@@ -161,21 +149,16 @@ moves_keep (Ok old) ends place m n said names bytes e here stays h =
 moves_keep (Err fault) ends place m n said names bytes e here stays h = absurd cc
 
 links_keep : (source : Result Node Fault) (ends : Result Names Fault) (place : Place) (m n : Machine) (said : CallResult) → LinksNode source ends m said n → Keeps place m n
-links_keep (Ok node) ends place m n said h = changes_keep ends _ place m n said h
-links_keep (Err fault) ends place m n said h = refused_keeps _ place m n said h
+links_keep source ends place m n said h = grind (arith, changes_keep, refused_keeps)
 
 copies_keep : (source : Result (List ℕ) Fault) (ends : Result Names Fault) (place : Place) (m n : Machine) (said : CallResult) → CopiesBytes source ends m said n → Keeps place m n
-copies_keep (Ok bytes) (Ok names) place m n said (is_said, (tree, files, synced, folders)) = keeps_same place m n files
-copies_keep (Ok bytes) (Err fault) place m n said h = refused_keeps fault place m n said h
-copies_keep (Err fault) ends place m n said h = refused_keeps fault place m n said h
+copies_keep source ends place m n said h = grind (arith, keeps_same, refused_keeps)
 
 spells_keep : (ends : Result Names Fault) (place : Place) (m n : Machine) (said : CallResult) → SpellsEnd ends m said n → Keeps place m n
-spells_keep (Ok names) place m n said (text, is_said, spells, same) = keeps_self place m n same
-spells_keep (Err fault) place m n said h = refused_keeps fault place m n said h
+spells_keep ends place m n said h = grind (arith, keeps_self, refused_keeps)
 
 grows_keep : (file : Place) (more : List ℕ) (q : Names) (m n : Machine) → Grows file more m n → Keeps (under q) m n
-grows_keep (under names) more q m n (tree, files, synced, folders) = keeps_same (under q) m n files
-grows_keep (nameless mark here) more q m n (tree, files, synced, folders) = others_placed (grown mark more) (under q) m n refl files
+grows_keep file more q m n holds = grind (arith, keeps_same, others_placed)
 
 abbrev pub Synced : Machine → Machine → CallResult → OpenFile → Type 0
 Synced m n said file = (said ≡ says.Done) × Became m m.tree m.files (with_sync file.place (fixes m.synced (node_of m.tree file.place)) m.synced) n
@@ -220,17 +203,13 @@ goes_keep most call q m n said safe h = absurd safe
 -- ---- failures without cause
 
 part_keeps : (o : Option OpenFile) (bytes : List ℕ) (part : Option ℕ) (q : Names) (m n : Machine) → PartWritten o bytes part m n → Keeps (under q) m n
-part_keeps (Some file) bytes (Some part) q m n h = grows_keep file.place (take (taken (Some part) bytes) bytes) q m n h
-part_keeps (Some file) bytes None q m n (tree, files, synced, folders) = keeps_same (under q) m n files
-part_keeps None bytes part q m n (tree, files, synced, folders) = keeps_same (under q) m n files
+part_keeps o bytes part q m n h = grind (arith, grows_keep, keeps_same)
 
 leaves_keep : (b : Bool) (number : ℕ) (bytes : List ℕ) (part : Option ℕ) (q : Names) (m n : Machine) → LeavesWritten b number bytes part m n → Keeps (under q) m n
-leaves_keep true number bytes part q m n h = keeps_self (under q) m n h
-leaves_keep false number bytes part q m n h = part_keeps (m.files number) bytes part q m n h
+leaves_keep b number bytes part q m n h = grind (arith, keeps_self, part_keeps)
 
 created_keeps : (b : Bool) (path : List ℕ) (part : Option ℕ) (q : Names) (m n : Machine) → LeavesCreated b path part m n → Keeps (under q) m n
-created_keeps true path part q m n h = keeps_self (under q) m n h
-created_keeps false path part q m n (tree, files, synced, folders) = keeps_same (under q) m n files
+created_keeps b path part q m n h = grind (arith, keeps_self, keeps_same)
 
 broken_keep : (call : SystemCall) (why : ErrorKind) (part : Option ℕ) (q : Names) (m n : Machine) → Safe q m call → LeavesPart m call why part n → Keeps (under q) m n
 broken_keep (asks.OpenToAppend path) why part q m n safe (tree, files, synced, folders) = keeps_same (under q) m n files
@@ -246,19 +225,13 @@ occurs_keep call q m n said safe (Take most, h) = goes_keep (Some most) call q m
 occurs_keep call q m n said safe (Fail fault part, (why, is_said, of, missed, left)) = broken_keep call why part q m n safe left
 
 pub front_left : (number size : ℕ) (m n : Machine) (said : CallResult) → Readable m number → OccursSomehow m (asks.Read number size) said n → ReadLeft m n
-front_left number size m n said can (Plain, h) = reads_left (take (readable None size)) number m n said can h
-front_left number size m n said can (Take most, h) = reads_left (take (readable (Some most) size)) number m n said can h
-front_left number size m n said can (Fail fault part, (why, is_said, of, missed, left)) = read_self m n left
+front_left number size m n said can holds = grind (arith, reads_left, read_self)
 
 pub rest_left : (number : ℕ) (m n : Machine) (said : CallResult) → Readable m number → OccursSomehow m (asks.ReadRest number) said n → ReadLeft m n
-rest_left number m n said can (Plain, h) = reads_left (λ bytes. bytes) number m n said can h
-rest_left number m n said can (Take most, h) = reads_left (λ bytes. bytes) number m n said can h
-rest_left number m n said can (Fail fault part, (why, is_said, of, missed, left)) = read_self m n left
+rest_left number m n said can holds = grind (arith, reads_left, read_self)
 
 pub stat_left : (number : ℕ) (m n : Machine) (said : CallResult) → IsOpenNumber m number → OccursSomehow m (asks.StatFile number) said n → n ≡ m
-stat_left number m n said (place, is) (Plain, h) = asked_left number m n said place is h
-stat_left number m n said (place, is) (Take most, h) = asked_left number m n said place is h
-stat_left number m n said (place, is) (Fail fault part, (why, is_said, of, missed, left)) = left
+stat_left number m n said holds is = grind (arith, asked_left)
 
 pub readable_on : (number : ℕ) (m n : Machine) → Readable m number → ReadLeft m n → Readable n number
 readable_on number m n (place, is, can) (keeps, tree) = (place, keeps place number is, subst (λ (t : Tree). CanRead (node_of t place)) (sym tree) can)

@@ -1,18 +1,18 @@
 -- What a step leaves at a temporary file that it isn't about.
 use Rattle.std.{proofs.Common.{◌≡◌, ◌⊎◌, inl, inr, ℕ, Bool, true, false, cond, List, [], Option, None, Some, refl, sym, ap, subst, ◌∙◌}, specs.Prelude.{if◌then◌else◌}}
-use Rattle.cacache_core.specs.PathNames.{Names}
+use Rattle.cacache_core.specs.Paths.{Names}
 use Rattle.cacache_store.specs.declared.store.step.Step.TheVariants as steps
 use Rattle.cacache_store.specs.Plain.{PlainAnswer}
 use Rattle.cacache_disk.specs.{declared.{luck.Luck.TheVariants.{Plain}, node.Node.{Node, TheVariants.{Folder, File, Link}}}, Tree.{Tree, look, put, same_path}}
 use Rattle.cacache_disk.proofs.{Maps.{same_path-true}, PutNodes.{look-put}, Roots.{same_self}}
-use Rattle.cacache_loss.proofs.{StepCases.{put_misses, step_keeps}, UnchangedPaths.{at_names}}
+use Rattle.cacache_loss.proofs.{StepCases.{put_misses, step_keeps}, Reaching.{at_names}}
 use Rattle.cacache_value.specs.{Kinds.{PathKind, Temporary, Way, Stray, path_kind}, Placed.{MayStand, Placed, Proper}}
 use Rattle.cacache_calls.specs.declared.reply.Reply.{Reply}
 use Rattle.cacache_system.specs.{declared.call.{CallResult.{CallResult}, CallItem.{CallItem}}, Seen.{NumberedTemp, NumberedStep}, CallsOf.{Runs}, AnswersOf.{Hint, first, answer_of}}
 use Rattle.cacache_system.specs.declared.call.CallResult.TheVariants as says
 use Rattle.std_io.specs.declared.io.kind.ErrorKind.TheVariants as kind
 use Rattle.cacache_system_model.specs.{Machine.{Machine}, Calls.{GoesWell, OccursSomehow, EachCall}, Laws.{LeavesFresh, IsDone, temp_on, step_on, IsLucky}, Premises.{HasPlainLaw}, Mirrors.{hollow, Mirrors}, Chains.{WritesTemp, OnDisk, StepMade}, callers.Storing.{IsExplained}}
-use Rattle.cacache_system_model.proofs.{Covered.{each_may_break, each_goes_plainly}, Mirroring.{SameShape}, Chaining.{steps_on_disk}, callers.{Covering.{hollow_folder, hollow_link, hollow_file, HasAsked}, TreeKept.{Misses, look_kept}}}
+use Rattle.cacache_system_model.proofs.{Covered.{each_may_break, each_goes_plainly}, Mirroring.{SameShape}, Chaining.{steps_on_disk}, callers.{Covering.{hollow_folder, hollow_link, hollow_file, HasAsked}, OpenTemps.{Misses, look_kept}}}
 
 -- ---- the machine's tree is one of the cache's too
 

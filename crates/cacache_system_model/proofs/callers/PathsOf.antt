@@ -1,24 +1,23 @@
 -- The paths that calls read, link, sync and remove.
-use Rattle.std.proofs.{Common.{◌≡◌, ◌==◌, ◌<◌, ◌^◌, ◌+◌, ◌-◌, ℕ, zero, suc, Bool, true, false, cond, List, [], ◌∷◌, ◌++◌, Option, None, Some, Result, Ok, Err, length, drop, take, nat_le, refl, sym, ap, subst, ◌∙◌, arith, append-nil, append_assoc}, lemmas.List.Elements.{All-head, All-tail, All-append, All-nil, All-cons, All-weaker}}
+use Rattle.std.proofs.{lemmas.{Grind.{common_steps}, List.Elements.{All-head, All-tail, All-append, All-nil, All-cons, All-weaker}}, Common.{rules, ◌≡◌, ◌==◌, ◌<◌, ◌^◌, ◌+◌, ◌-◌, ℕ, zero, suc, Bool, true, false, cond, List, [], ◌∷◌, ◌++◌, Option, None, Some, Result, Ok, Err, length, take, nat_le, refl, sym, ap, subst, ◌∙◌, arith, append-nil, append_assoc}}
 use Rattle.std.specs.Prelude.{All, IfOk, filter}
-use Rattle.cacache_history.proofs.{Proper.{sound_proper}, Listings.ListingWalks.{joined_more}, Entries.{Formed.{TreeFormed}, Spelled.{HasIntegrity, latest_has}}, Histories.ShownTurns.{bucket_below}, Contents.Digests.{digest_hash}}
+use Rattle.cacache_history.proofs.{StepActs.{sound_proper}, Listings.ListingWalks.{joined_more}, Entries.Spelled.{TreeFormed, HasIntegrity, latest_has}, Histories.ShownTurns.{bucket_below}, Contents.Digests.{digest_hash}}
 use Rattle.cacache_history.specs.{Setup.{Setup, call_site, home, may_export, is_outside}, History.{NamesIntegrity}}
 use Rattle.sha1.specs.Sha1.{sha1}
-use Rattle.cacache_core.specs.{declared.{errors.{Fault.{Fault}, Error.TheVariants.{IntegrityError}, IntegrityFault.TheVariants.{Check}}, integrity.{digest.Hash.{Hash}, algorithm.Algorithm.{Algorithm}}}, Digests.{digest}, Integrity.{IsHash, IsIntegrity, integrity_under, hash_of, actual}, Meeting.{meets}, PathNames.{Names, names_of, names_below, home_of, is_bad, is_name, pieces, IsProperName}, Paths.{join, joined, index_area, content_names, bucket_names, folders_to}}
+use Rattle.cacache_core.specs.{declared.{errors.Fault.{Fault}, integrity.{digest.Hash.{Hash}, algorithm.Algorithm.{Algorithm}}}, Integrity.{digest, IsHash, IsIntegrity, integrity_under, hash_of}, Paths.{Names, names_of, names_below, home_of, is_bad, is_name, pieces, IsProperName, join, joined, index_area, content_names, bucket_names, folders_to}}
 use Rattle.cacache_core.proofs.{JoinedNames.{joined_texts_name}, PathLemmas.{keys_have_digests}, ProperNames.{names_are_proper}}
 use Rattle.cacache_core.specs.declared.errors.Fault.TheVariants as faults
-use Rattle.cacache_store.specs.{declared.store.{plain.{PlainFile.{PlainFile}, PlainTemp.{PlainTemp}}, answer.Name.{Name}}, Plain.{PlainStep, PlainAnswer}, Fits.{AreProperNames}}
+use Rattle.cacache_store.specs.{declared.store.{plain.{PlainFile.{PlainFile}, PlainTemp.{PlainTemp}}, answer.Name.{Name}}, Plain.{PlainStep, PlainAnswer, AreProperNames}}
 use Rattle.cacache_store.specs.declared.store.step.Step.TheVariants as steps
-use Rattle.cacache_entry.specs.{Latest.{Found}, Bucket.{entries_of}, FittingEntries.{IsEntry}}
-use Rattle.cacache_calls.specs.{declared.{carried.{Aim.{Aim}, Commit.{Commit}, Content.{Content as Stored}, Lookup.{Lookup}}, command.{Command.{Command}, Export.{Export}, How.{How, TheVariants.{Copy, Reflink, HardLink}}}, reply.Reply.TheVariants.{Copied, Done, Listed, Read}, target.Target.{Target}, visit.{Visit.{Visit, TheVariants.{Enter, ReadBucket, RemoveFile, RemoveFolder}}, Task.{Task, TheVariants.{Make, Stumble}}}}, Answers.{done_in, temp_in, written_in, synced_in, there_in, taken_in, bytes_in, file_in, got_in, length_in, names_in}, Common.{fails, ends_with, go_on, sync_up}, ContentReads.{checked, answer_there, answer_absent}, Exporting.{export_from, export_content, export, copied_count}, Inserting.{insertion, deletion, bucket_line, recorded, after_append, insert, refused_cause}, Linking.{link_target, commit_for, hashed_path, after_size, after_read}, Looking.{found_in, found_for, found_content, after_bucket, no_bucket}, Sound.{SoundCommit, SoundTarget, Sound, MayBegin}, State.{State, doing, creating, writing, syncing, persisting, linking, confirming, appending, looking, reading, asking, sizing, opening_file, hashing, copying, walking, over, Site, Insertion, Item, Walk, Hashing, to_verify, to_link, make_folder, remove, reflink, hard_link, sync_file, sync_dir}, StepPaths.{content_folder, content_path, content_folders, bucket_path, bucket_folders}, Storing.{placed, secured, secured_found, write_rest, after_write, after_confirm}, Table.{wants, after, opening}, Walking.{EachVisit, most, failed, give, miss, walk_ends, walk_on, too_many, tasks_of, leaving, entered, unread_bucket, listed, items_in}}
-use Rattle.cacache_calls.proofs.{Visits.{MayMeet, each_append, each_name, each_leaving}, Branches.{cond_leads, go_on_leads}, Leading.{moves_on, places, inserts}, Sound.{some_is}}
-use Rattle.cacache_calls.specs.declared.carried.Aim.TheVariants as aims
+use Rattle.cacache_entry.specs.{Bucket.{Found, entries_of}, FittingEntries.{IsEntry}}
+use Rattle.cacache_calls.specs.{declared.{carried.{Aim.{Aim}, Commit.{Commit}, Content.{Content as Stored}, Lookup.{Lookup}}, command.{Command.{Command}, Export.{Export}, How.{How}}, reply.Reply.TheVariants.{Copied, Done, Listed}, target.Target.{Target}, visit.{Visit.{Visit, TheVariants.{Enter, ReadBucket, RemoveFile, RemoveFolder}}, Task.{Task, TheVariants.{Make, Stumble}}}}, Answers.{done_in, temp_in, synced_in, there_in, taken_in, bytes_in, file_in, got_in, length_in, names_in}, Common.{fails, go_on, sync_up}, Reading.{answer_there, answer_absent, export_from, export, copied_count, found_in, found_for, no_bucket}, Inserting.{insertion, deletion, recorded, insert, refused_cause}, Linking.{link_target, commit_for, hashed_path, after_size, after_read}, Sound.{SoundCommit, SoundTarget, Sound, MayBegin}, State.{State, doing, creating, writing, syncing, persisting, linking, confirming, appending, looking, reading, asking, sizing, opening_file, hashing, copying, walking, over, Site, Insertion, Item, Walk, Hashing, make_folder, remove, reflink, hard_link, sync_file, sync_dir}, Steps.{content_path, content_folders, bucket_path, bucket_folders}, Storing.{placed, secured, secured_found, write_rest}, Table.{wants, after, opening}, Walking.{EachVisit, most, failed, give, miss, walk_ends, walk_on, too_many, tasks_of, leaving, entered, unread_bucket}}
+use Rattle.cacache_calls.proofs.{Keys.{MayMeet, each_append, each_name, each_leaving}, Going.{cond_leads, go_on_leads, moves_on, places, inserts}, Sound.{some_is}}
 use Rattle.cacache_calls.specs.declared.command.Command.TheVariants as commands
 use Rattle.cacache_calls.specs.declared.command.Source.TheVariants as sources
-use Rattle.cacache_value.specs.{Kinds.{PathKind, Content, Bucket, Temporary, Way, Elsewhere, path_kind, kind_in_area, kind_below, is_used, IsFor}, Acts.{list_of}, Placed.{Placed, Proper}, OpeningTrees.{LieApart}, Shows.{ShowsBucket}, Value.{value_of_tree}}
-use Rattle.cacache_value.proofs.{KindsApart.{above, kind-below}, PathKinds.{paths_are_for}, Shows.{trees_show}}
+use Rattle.cacache_value.specs.{Kinds.{PathKind, Content, Bucket, Temporary, Way, Elsewhere, path_kind, kind_in_area, kind_below, is_used, IsFor}, Acts.{list_of}, Placed.{Placed, Proper, LieApart}, Shows.{ShowsBucket}, Value.{value_of_tree}}
+use Rattle.cacache_value.proofs.{PathKinds.{above, kind-below, paths_are_for}, Shows.{trees_show}}
 use Rattle.cacache_store.specs.declared.store.answer.Answer.TheVariants as answers
-use Rattle.cacache_disk.specs.{declared.luck.Luck.{Luck}, Tree.{Tree}, Apply.{apply}, Rooted.{Rooted}}
+use Rattle.cacache_disk.specs.{declared.luck.Luck.{Luck}, Tree.{Tree, Rooted}, Apply.{apply}}
 use Rattle.cacache_system_model.specs.callers.Storing.{IsNotFor, Stores}
 
 -- ---- the folders that lead to a path are ways
@@ -28,8 +27,7 @@ AllWays h [] = Unit {0}
 AllWays h (p ∷ ps) = IsFor h Way p × AllWays h ps
 
 way_below : (h : Option Names) (front : Names) → kind_below front ≡ Way → IfOk (names_below h front) (λ names. path_kind h names ≡ Way)
-way_below None front is = tt
-way_below (Some folder) front is = kind-below folder front ∙ is
+way_below h front is = grind (arith, kind-below)
 
 at_home : (b c : Bool) (all : Names) → IfOk (cond b (Err faults.NotFound) (cond c (Err faults.InvalidInput) (Ok all))) (λ names. path_kind (cond c None (Some all)) names ≡ Way)
 at_home true c all = tt
@@ -41,9 +39,7 @@ unfolding names_of home_of
 own_way cache = at_home (length cache == 0) (is_bad cache) (filter is_name (pieces cache))
 
 way_at : (cache : List ℕ) (front : Names) → All IsProperName front → kind_below front ≡ Way → IsFor (home_of cache) Way (joined cache front)
-way_at cache [] all is = own_way cache
-way_at cache (n ∷ front) all is =
-    subst (λ r. IfOk r (λ names. path_kind (home_of cache) names ≡ Way)) (sym (joined_texts_name cache (n ∷ front) all (omega arith))) (way_below (home_of cache) (n ∷ front) is)
+way_at cache front all is = grind (arith, own_way, joined_texts_name, way_below)
 
 ways_from : (cache : List ℕ) (front ns : Names) → All IsProperName front → All IsProperName ns → is_used (kind_below (front ++ ns)) ≡ true → AllWays (home_of cache) (folders_to (joined cache front) ns)
 ways_from cache front [] proper all used = tt
@@ -66,8 +62,7 @@ bucket_ways cache key = ways_from cache [] (bucket_names key) (All-nil IsProperN
 -- ---- paths of contents and buckets
 
 not_temporary : (h : Option Names) (k : PathKind) (r : Result Names Fault) → (k ≡ Temporary → ⊥) → IfOk r (λ names. path_kind h names ≡ k) → IfOk r (λ names. path_kind h names ≡ Temporary → ⊥)
-not_temporary h k (Ok names) apart is = λ e. apart (sym is ∙ e)
-not_temporary h k (Err fault) apart is = tt
+not_temporary h k r apart is = grind (arith, common_steps)
 
 content_apart : (cache : List ℕ) (i : List Hash) → IsIntegrity i → IsNotFor (home_of cache) Temporary (content_path cache i)
 unfolding content_path
@@ -124,45 +119,29 @@ module _ (h : Option Names) where
   -- of a commit whose content lies where contents do
   module _ (c : Commit) (ways : AllWays h (content_folders c.cache c.computed)) where
     secured_paths : HasPaths h (secured c)
-    secured_paths =
-        cond_leads (HasPaths h) c.options.durable (sync_up (content_folders c.cache c.computed) (placed c)) (placed c)
-        (λ _. ways_up (content_folders c.cache c.computed) (placed c) ways (placed_paths c)) (λ _. placed_paths c)
+    secured_paths = search (rules, cond_leads, ways_up, placed_paths)
 
     found_paths : IsNotFor h Temporary (content_path c.cache c.computed) → HasPaths h (secured_found c)
-    found_paths own =
-        cond_leads (HasPaths h) c.options.durable (doing (sync_file (content_path c.cache c.computed)) (secured c)) (secured c) (λ _. (own, secured_paths)) (λ _. secured_paths)
+    found_paths own = search (rules, cond_leads, secured_paths)
 
   recorded_paths : (i : Insertion) → IsNotFor h Temporary (bucket_path i.cache i.entry.key) → AllWays h (bucket_folders i.cache i.entry.key) → HasPaths h (recorded i)
-  recorded_paths i own ways =
-      cond_leads (HasPaths h) i.durable (doing (sync_file (bucket_path i.cache i.entry.key)) (sync_up (bucket_folders i.cache i.entry.key) (over i.reply))) (over i.reply)
-      (λ _. (own, ways_up (bucket_folders i.cache i.entry.key) (over i.reply) ways tt)) (λ _. tt)
+  recorded_paths i own ways = search (rules, cond_leads, ways_up)
 
   rest_paths : (c : Commit) (file : PlainTemp) (rest : List ℕ) → HasPaths h (write_rest c file rest)
-  rest_paths c file [] = moves_on (λ s. HasPaths h (doing (make_folder (content_folder c.cache c.computed)) s)) c file tt tt
-  rest_paths c file (b ∷ bs) = tt
+  rest_paths c file rest = grind (arith, moves_on)
 
 how_paths : (h : Option Names) (how : How) (from to : List ℕ) (count : Option ℕ) → IsNotFor h Temporary from → HasPaths h (export_from how from to count)
-how_paths h Copy from to count other = other
-how_paths h Reflink from to count other = (other, tt)
-how_paths h HardLink from to count other = (other, tt)
+how_paths h how from to count other = grind (arith, common_steps)
 
 export_paths : (k : Stored) (e : Export) → IsIntegrity k.integrity → HasPaths (home_of k.cache) (export k e)
-export_paths k e is =
-    cond_leads (HasPaths (home_of k.cache)) e.checked (opening_file (to_verify k e)) (export_content k e None) (λ _. content_apart k.cache k.integrity is)
-    (λ _. how_paths (home_of k.cache) e.how (content_path k.cache k.integrity) e.to None (content_apart k.cache k.integrity is))
+export_paths k e is = search (rules, cond_leads, content_apart, how_paths)
 
+-- after a lookup
 look_paths : (l : Lookup) (aim : Aim) (found : Option Found) → HasIntegrity found → HasPaths (home_of l.cache) (found_for l aim found)
-look_paths l aims.Report found has = tt
-look_paths l aims.Read None has = tt
-look_paths l aims.Read (Some f) has = has
-look_paths l aims.Remove None has = (bucket_apart l.cache l.key, tt)
-look_paths l aims.Remove (Some f) has = (content_apart l.cache f.integrity has, (bucket_apart l.cache l.key, tt))
-look_paths l (aims.Export e) None has = tt
-look_paths l (aims.Export e) (Some f) has = export_paths (found_content l f) e has
+look_paths l aim found has = grind (arith, bucket_apart, content_apart, export_paths)
 
 unread_paths : (l : Lookup) (fault : Fault) → HasPaths (home_of l.cache) (no_bucket l fault)
-unread_paths l faults.NotFound = look_paths l l.aim None tt
-unread_paths l fault = tt
+unread_paths l fault = grind (arith, look_paths)
 
 -- ---- listings
 
@@ -173,8 +152,7 @@ no_temporary (suc n) [] e = cc
 no_temporary (suc n) (name ∷ rest) e = no_temporary n rest e
 
 index_below : (h : Option Names) (names : Names) → IfOk (names_below h (index_area ∷ names)) (λ all. path_kind h all ≡ Temporary → ⊥)
-index_below None names = tt
-index_below (Some folder) names = λ e. no_temporary 3 names (sym (kind-below folder (index_area ∷ names)) ∙ e)
+index_below h names = grind (arith, no_temporary, kind-below)
 
 index_apart : (h : Option Names) (p : List ℕ) → InIndex h p → IsNotFor h Temporary p
 index_apart h p (cache, names, own, all, is) =
@@ -183,8 +161,7 @@ index_apart h p (cache, names, own, all, is) =
     subst (λ (r : Result Names Fault). IfOk r (λ all. path_kind h all ≡ Temporary → ⊥)) (sym named) (index_below h names)
 
 visited_apart : (b : Bool) (h : Option Names) (p : List ℕ) → Visits b h (ReadBucket p) → IsNotFor h Temporary p
-visited_apart false h p is = index_apart h p is
-visited_apart true h p is = absurd is
+visited_apart b h p is = grind (arith, index_apart)
 
 index_deeper : (h : Option Names) (p n : List ℕ) → InIndex h p → IsProperName n → InIndex h (join p n)
 index_deeper h p n (cache, names, own, all, is) proper =
@@ -213,16 +190,13 @@ module _ (h : Option Names) where
   walk_paths b (Stumble fault path ∷ todo) each w same = misses_paths w (walk_on todo) fault (λ v e. walk_paths b todo each v (e ∙ same))
 
   bucket_paths : (w : Walk) (todo : List Task) (fault : Fault) → EachVisit (Visits w.clears h) todo → HasPaths h (unread_bucket w todo fault)
-  bucket_paths w todo faults.NotFound each = walk_paths w.clears todo each w refl
-  bucket_paths w todo fault each = misses_paths w (walk_on todo) fault (walk_paths w.clears todo each)
+  bucket_paths w todo fault each = grind (arith, walk_paths, misses_paths)
 
   may_meet : (b : Bool) (level : ℕ) (p : List ℕ) (n : Name) → Visits b h (Enter p level) → IsProperName n.name → MayMeet (Visits b h) level p b n
-  may_meet true level p n is proper = (tt, tt)
-  may_meet false level p n is proper = (index_deeper h p n.name is proper, index_deeper h p n.name is proper)
+  may_meet b level p n is proper = grind (arith, index_deeper)
 
   each_left : (b : Bool) (level : ℕ) (p : List ℕ) → EachVisit (Visits b h) (leaving b level p)
-  each_left true level p = each_leaving (Visits true h) level p tt
-  each_left false level p = tt
+  each_left b level p = grind (arith, each_leaving)
 
   entered_paths : (w : Walk) (p : List ℕ) (level : ℕ) (todo : List Task) (names : List Name) → AreProperNames names → Visits w.clears h (Enter p level) → EachVisit (Visits w.clears h) todo
       → HasPaths h (entered w p level todo names)
@@ -238,20 +212,14 @@ module _ (h : Option Names) where
       cond_leads (HasPaths h) (nat_le (length names) w.left) (walk_on tasks less) (too_many w) (λ _. walk_paths w.clears tasks all less refl) (λ _. many_paths w)
 
   removed_paths : (a : PlainAnswer) (w : Walk) (todo : List Task) → EachVisit (Visits w.clears h) todo → HasPaths h (go_on (done_in a) (miss w (walk_on todo)) (λ _. walk_on todo w))
-  removed_paths a w todo each =
-      go_on_leads (HasPaths h) (done_in a) (miss w (walk_on todo)) (λ _. walk_on todo w) tt (λ fault. misses_paths w (walk_on todo) fault (walk_paths w.clears todo each))
-      (λ x e. walk_paths w.clears todo each w refl)
+  removed_paths a w todo each = search (rules, go_on_leads, misses_paths, walk_paths)
 
 -- a sound commit's content
 commit_ways : (site : Site) (c : Commit) → SoundCommit site c → AllWays (home_of site.cache) (content_folders c.cache c.computed)
-commit_ways site c sound =
-    subst (λ (x : List ℕ). AllWays (home_of site.cache) (content_folders x c.computed)) (sym sound.here)
-    (subst (λ (i : List Hash). AllWays (home_of site.cache) (content_folders site.cache i)) (sym sound.computed_of) (content_ways site.cache c.options.algorithm sound.bytes))
+commit_ways site c sound = search (rules, content_ways)
 
 commit_apart : (site : Site) (c : Commit) → SoundCommit site c → IsNotFor (home_of site.cache) Temporary (content_path c.cache c.computed)
-commit_apart site c sound =
-    subst (λ (x : List ℕ). IsNotFor (home_of site.cache) Temporary (content_path x c.computed)) (sym sound.here)
-    (subst (λ (i : List Hash). IsNotFor (home_of site.cache) Temporary (content_path site.cache i)) (sym sound.computed_of) (own_content_apart site.cache c.options.algorithm sound.bytes))
+commit_apart site c sound = search (rules, own_content_apart)
 
 module _ (site : Site) (may outside : List ℕ → Bool) where
   abbrev h : Option Names
@@ -262,11 +230,7 @@ module _ (site : Site) (may outside : List ℕ → Bool) where
 
   -- of a file that was read
   read_paths : (x : Hashing) (bytes : List ℕ) (g : PlainFile × List ℕ) → IsNotFor h Temporary (hashed_path x) → P (after_read x bytes g)
-  read_paths x bytes (file, b ∷ bs) other = other
-  read_paths (to_link t) bytes (file, []) other = tt
-  read_paths (to_verify k e) bytes (file, []) other =
-      cond_leads P (meets k.integrity bytes) (export_content k e (Some (length bytes))) (ends_with (IntegrityError (Check k.integrity (actual k.integrity bytes))))
-      (λ _. how_paths h e.how (content_path k.cache k.integrity) e.to (Some (length bytes)) other) (λ _. tt)
+  read_paths x bytes g other = grind (arith, cond_leads, how_paths)
 
   -- behind an answer, by which what was found has an integrity
   pub paths_after : (a : PlainAnswer) (s : State) → ((p : List ℕ) (names : List Name) → wants s ≡ Some (steps.ReadDir p) → names_in a ≡ Ok names → AreProperNames names) → Sound site may outside s → P s
@@ -274,31 +238,16 @@ module _ (site : Site) (may outside : List ℕ → Bool) where
   paths_after a (doing (make_folder p) s) kind sound paths has = go_on_leads P (done_in a) fails (λ _. s) tt (λ fault. tt) (λ x e. paths)
   paths_after a (doing errand s) kind sound paths has = go_on_leads P (done_in a) fails (λ _. s) tt (λ fault. tt) (λ x e. paths.1)
   paths_after a (creating number c rest) kind sound paths has = go_on_leads P (temp_in a) fails (λ file. write_rest c file rest) tt (λ fault. tt) (λ file e. rest_paths h c file rest)
-  paths_after a (writing c file rest) kind sound paths has =
-      go_on_leads P (written_in a) fails (after_write c rest) tt (λ fault. tt)
-      (λ w e. cond_leads P (w.1 == 0) (fails faults.WriteZero) (write_rest c w.0 (drop w.1 rest)) (λ _. tt) (λ _. rest_paths h c w.0 (drop w.1 rest)))
+  paths_after a (writing c file rest) kind sound paths has = search (rules, go_on_leads, cond_leads, rest_paths)
   paths_after a (syncing c file) kind sound paths has = go_on_leads P (synced_in a) fails (persisting c) tt (λ fault. tt) (λ new e. tt)
   paths_after a (persisting c file) kind sound paths has =
       go_on_leads P (done_in a) (confirming c) (λ _. secured c) tt (λ fault. tt) (λ x e. secured_paths h c (commit_ways site c sound.0))
   paths_after a (linking c target) kind sound paths has =
       go_on_leads P (done_in a) (confirming c) (λ _. secured c) tt (λ fault. tt) (λ x e. secured_paths h c (commit_ways site c sound.0))
-  paths_after a (confirming c fault) kind sound paths has =
-      go_on_leads P (there_in a) (λ _. fails fault) (after_confirm c fault) tt (λ is_said. tt)
-      (λ there e. cond_leads P there (secured_found c) (fails fault) (λ _. found_paths h c (commit_ways site c sound) (commit_apart site c sound)) (λ _. tt))
-  paths_after a (appending i) kind sound paths has =
-      go_on_leads P (taken_in a) fails (after_append i) tt (λ fault. tt)
-      (λ n e. cond_leads P (nat_le (length (bucket_line i)) n) (recorded i) (fails faults.ShortAppend)
-      (λ _. recorded_paths h i
-      (subst (λ (x : List ℕ). IsNotFor h Temporary (bucket_path x i.entry.key)) (sym sound.0.here) (bucket_apart site.cache i.entry.key))
-      (subst (λ (x : List ℕ). AllWays h (bucket_folders x i.entry.key)) (sym sound.0.here) (bucket_ways site.cache i.entry.key)))
-      (λ _. tt))
-  paths_after a (looking l) kind sound paths has =
-      subst (λ (x : List ℕ). HasPaths (home_of x) (after (looking l) a)) sound.0
-      (go_on_leads (HasPaths (home_of l.cache)) (bytes_in a) (no_bucket l) (after_bucket l) tt (unread_paths l)
-      (λ bytes e. look_paths l l.aim (found_in l.key bytes) (has l bytes refl e)))
-  paths_after a (reading k) kind sound paths has =
-      go_on_leads P (bytes_in a) fails (checked k) tt (λ fault. tt)
-      (λ bytes e. cond_leads P (meets k.integrity bytes) (over (Read bytes)) (ends_with (IntegrityError (Check k.integrity (actual k.integrity bytes)))) (λ _. tt) (λ _. tt))
+  paths_after a (confirming c fault) kind sound paths has = search (rules, go_on_leads, cond_leads, found_paths, commit_ways, commit_apart)
+  paths_after a (appending i) kind sound paths has = search (rules, go_on_leads, cond_leads, recorded_paths, bucket_apart, bucket_ways)
+  paths_after a (looking l) kind sound paths has = search (rules, go_on_leads, unread_paths, look_paths)
+  paths_after a (reading k) kind sound paths has = search (rules, go_on_leads, cond_leads)
   paths_after a (asking k) kind sound paths has = go_on_leads P (there_in a) answer_absent answer_there tt (λ fault. tt) (λ there e. tt)
   paths_after a (sizing t) kind sound paths has = go_on_leads P (length_in a) fails (after_size t) tt (λ fault. tt) (λ n e. paths)
   paths_after a (opening_file x) kind sound paths has = go_on_leads P (file_in a) fails (λ file. hashing x file []) tt (λ fault. tt) (λ file e. paths)
@@ -307,8 +256,7 @@ module _ (site : Site) (may outside : List ℕ → Bool) where
   paths_after a (walking w (Enter p level) todo) kind sound (is, each) has =
       go_on_leads P (names_in a) (miss w (walk_on todo)) (entered w p level todo) tt (λ fault. misses_paths h w (walk_on todo) fault (walk_paths h w.clears todo each))
       (λ names e. entered_paths h w p level todo names (kind p names refl e) is each)
-  paths_after a (walking w (ReadBucket p) todo) kind sound (is, each) has =
-      go_on_leads P (bytes_in a) (unread_bucket w todo) (listed w todo) tt (λ fault. bucket_paths h w todo fault each) (λ bytes e. gives_paths h w (items_in bytes) (walk_on todo) (walk_paths h w.clears todo each))
+  paths_after a (walking w (ReadBucket p) todo) kind sound (is, each) has = search (rules, go_on_leads, bucket_paths, gives_paths, walk_paths)
   paths_after a (walking w (RemoveFile p) todo) kind sound (is, each) has = removed_paths h a w todo each
   paths_after a (walking w (RemoveFolder p) todo) kind sound (is, each) has = removed_paths h a w todo each
   paths_after a (over reply) kind sound paths has = tt
@@ -319,28 +267,9 @@ module _ (site : Site) (may outside : List ℕ → Bool) where
   WantedStores None = Unit {0}
   WantedStores (Some step) = Stores h step
 
+  -- the step that a call asks for uses no temporary file by its path
   pub wants_apart : (s : State) (step : PlainStep) → Sound site may outside s → P s → wants s ≡ Some step → Stores h step
-  wants_apart (doing (make_folder p) s) step sound paths w = some_is (Stores h) (steps.MakeDirs p) step w tt
-  wants_apart (doing (remove p) s) step sound paths w = some_is (Stores h) (steps.RemoveFile p) step w tt
-  wants_apart (doing (reflink p q) s) step sound paths w = some_is (Stores h) (steps.Reflink p q) step w paths.0
-  wants_apart (doing (hard_link p q) s) step sound paths w = some_is (Stores h) (steps.HardLink p q) step w paths.0
-  wants_apart (doing (sync_file p) s) step sound paths w = some_is (Stores h) (steps.SyncFile p) step w paths.0
-  wants_apart (doing (sync_dir p) s) step sound paths w = some_is (Stores h) (steps.SyncDir p) step w paths.0
-  wants_apart (looking l) step sound paths w =
-      some_is (Stores h) (steps.ReadAll (bucket_path l.cache l.key)) step w
-      (subst (λ (x : List ℕ). IsNotFor h Temporary (bucket_path x l.key)) (sym sound.0) (bucket_apart site.cache l.key))
-  wants_apart (reading k) step sound paths w =
-      some_is (Stores h) (steps.ReadAll (content_path k.cache k.integrity)) step w
-      (subst (λ (x : List ℕ). IsNotFor h Temporary (content_path x k.integrity)) (sym sound) (content_apart site.cache k.integrity paths))
-  wants_apart (sizing t) step sound paths w = some_is (Stores h) (steps.Size t.path) step w paths
-  wants_apart (opening_file x) step sound paths w = some_is (Stores h) (steps.Open (hashed_path x)) step w paths
-  wants_apart (copying from to count) step sound paths w = some_is (Stores h) (steps.Copy from to) step w paths
-  wants_apart (walking v (Enter p level) todo) step sound paths w = some_is (Stores h) (steps.ReadDir p) step w tt
-  wants_apart (walking v (ReadBucket p) todo) step sound paths w = some_is (Stores h) (steps.ReadAll p) step w (visited_apart v.clears h p paths.0)
-  wants_apart (walking v (RemoveFile p) todo) step sound paths w = some_is (Stores h) (steps.RemoveFile p) step w tt
-  wants_apart (walking v (RemoveFolder p) todo) step sound paths w = some_is (Stores h) (steps.RemoveDir p) step w tt
-  wants_apart (over reply) step sound paths w = let no : None ≡ Some step = w in absurd cc
-  wants_apart s step sound paths w = subst WantedStores w tt
+  wants_apart s step sound paths w = grind (arith, some_is, bucket_apart, content_apart, visited_apart)
 
 -- ---- where calls begin
 
@@ -372,8 +301,7 @@ opens_paths s n command apart may named = tt
 -- ---- what a lookup finds
 
 bytes_are : (a : PlainAnswer) (bytes : List ℕ) → bytes_in a ≡ Ok bytes → a ≡ answers.Bytes bytes
-bytes_are (answers.Bytes all) bytes e = (let same : all ≡ bytes = cc in ap (λ (x : List ℕ). answers.Bytes x) same)
-bytes_are a bytes e = absurd cc
+bytes_are a bytes e = grind (arith, common_steps)
 
 found_has : (key bytes : List ℕ) → All IsEntry (entries_of bytes) → HasIntegrity (found_in key bytes)
 unfolding found_in

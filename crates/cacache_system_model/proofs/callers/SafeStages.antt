@@ -1,17 +1,17 @@
 -- Stages of a step whose calls neither move nor remove what is at some names, and put nothing there.
-use Rattle.std.proofs.Common.{◌≡◌, length, if◌then◌else◌, ◌==◌, ◌||◌, not, ℕ, zero, suc, Bool, true, false, cond, List, [], ◌∷◌, ◌++◌, Option, None, Some, min, refl, sym, subst, ◌∙◌}
+use Rattle.std.proofs.Common.{◌≡◌, length, ◌==◌, ◌||◌, not, ℕ, zero, suc, Bool, true, false, cond, List, [], ◌∷◌, ◌++◌, Option, None, Some, refl, sym, subst, ◌∙◌}
 use Rattle.std.specs.{Bool.{nat_eq}, Cmp.Lexicographic.{pointwise}, Str.{is_utf8}}
 use Rattle.std_io.specs.declared.io.kind.ErrorKind.{ErrorKind}
 use Rattle.std_io.specs.declared.io.kind.ErrorKind.TheVariants as kind
-use Rattle.cacache_core.specs.PathNames.{Names}
+use Rattle.cacache_core.specs.Paths.{Names}
 use Rattle.cacache_store.specs.declared.store.answer.{Kind.{Kind}, Name.{Name}}
 use Rattle.cacache_store.specs.declared.store.answer.Kind.TheVariants as kinds
 use Rattle.cacache_disk.specs.{declared.node.Node.TheVariants.{File}, Tree.{Tree, look}}
-use Rattle.cacache_system.specs.{declared.call.{FileInfo.{FileInfo}, SystemCall.{SystemCall}, CallResult.{CallResult}}, ListedNames.{text_of, is_proper, is_passed, names_in, with_slash}, CallsOf.{Stage, Reader, reader, read_once, more_names, entered as entered_name, ask_kind, next_name, broken_off, is_no_folder, opening_folder, following, reading_names, asking_kind, Purpose, to_give, to_sync, to_sync_folder, over, only, trying, taking_memory, opening, checking, opening_whole, reading_front, measuring, reading_rest, appending, standing as asking_folder, making, confirming, sizing, asking_source, asking_target, asking_end, making_end, resolving, making_fresh, filling, replacing, scrapping, copied, place_fresh, fresh_beside, fresh_number, name_taken, already_exists, is_link, after, interrupts, is_absent, is_same_node, unless_folder, if_folder, opened, below, climb, unmade, above_of, keeping, preparing, sync_again, give}}
+use Rattle.cacache_system.specs.{declared.call.{FileInfo.{FileInfo}, SystemCall.{SystemCall}, CallResult.{CallResult}}, Seen.{text_of, is_proper, is_passed, names_in, with_slash}, CallsOf.{Stage, Reader, reader, read_once, more_names, entered as entered_name, ask_kind, next_name, broken_off, is_no_folder, opening_folder, following, reading_names, asking_kind, Purpose, to_give, to_sync, to_sync_folder, over, only, trying, taking_memory, opening, checking, opening_whole, reading_front, measuring, reading_rest, appending, standing as asking_folder, making, confirming, sizing, asking_source, asking_target, asking_end, making_end, resolving, making_fresh, filling, replacing, scrapping, copied, place_fresh, fresh_beside, fresh_number, name_taken, already_exists, is_link, after, interrupts, is_absent, is_same_node, unless_folder, if_folder, opened, below, climb, unmade, above_of, keeping, preparing, sync_again, give}}
 use Rattle.cacache_system.specs.declared.call.SystemCall.TheVariants as asks
 use Rattle.cacache_system.specs.declared.call.CallResult.TheVariants as says
 use Rattle.cacache_system_model.specs.{Machine.{Machine}, Calls.{OccursSomehow}, callers.Opened.{Avoids, IsApart}}
-use Rattle.cacache_system_model.proofs.callers.{ListCalls.{CanOpen, IsListing, FolderLeft}, FreshFiles.{IsNew, new_moves, made_new, filled_new}, CopyTargets.{end_apart, spelled, IsLinkAt, link_shown, IsBarred, barred, never_opened, fresh_apart, not_made}, OpenCalls.{Moves, keeps_same, Readable, IsOpenNumber, IsNamed, Safe}, UnchangedCalls.{Unchanged, Readies, open_ready, append_ready}}
+use Rattle.cacache_system_model.proofs.callers.{ListCalls.{CanOpen, IsListing, FolderLeft}, OpenTemps.{IsNew, new_moves, made_new, filled_new}, CopyTargets.{end_apart, spelled, IsLinkAt, link_shown, IsBarred, barred, never_opened, fresh_apart, not_made}, OpenCalls.{Moves, keeps_same, Readable, IsOpenNumber, IsNamed, Safe}, UnchangedCalls.{Unchanged, Readies, open_ready, append_ready}}
 
 module _ (q : Names) where
   -- ---- stages
@@ -40,9 +40,9 @@ module _ (q : Names) where
   IsSafe (keeping number temp synced path s) m = IsOpenNumber m number × ((n : Machine) → Unchanged m n → IsSafe s n)
   IsSafe (preparing call s) m = Readies m call × ((n : Machine) → Unchanged m n → IsSafe s n)
   IsSafe (sizing path) m = Unit {0}
-  IsSafe (asking_source from to) m = IsApart q m.tree to
-  IsSafe (asking_target source from to) m = IsApart q m.tree to
-  IsSafe (asking_end source from to) m = IsApart q m.tree to × IsLinkAt m.tree to
+  IsSafe (asking_source number from to) m = IsApart q m.tree to
+  IsSafe (asking_target number source from to) m = IsApart q m.tree to
+  IsSafe (asking_end number source from to) m = IsApart q m.tree to × IsLinkAt m.tree to
   IsSafe (making_end number from to) m = IsBarred m.tree to
   IsSafe (resolving number from to) m = IsApart q m.tree to
   IsSafe (making_fresh left number from path) m = IsFile m.tree × Avoids q path
@@ -213,33 +213,33 @@ module _ (q : Names) where
   size_safe path (says.Info info) m = unless_safe info.kind (over (says.Info info)) m tt
   size_safe path said m = tt
 
-  pub source_safe : (from to : List ℕ) (said : CallResult) (m : Machine) → IsApart q m.tree to → IsSafe (after (asking_source from to) said) m
-  source_safe from to (says.Info source) m apart = cond_safe source.regular (asking_target source from to) _ m apart tt
-  source_safe from to said m apart = tt
+  pub source_safe : (number : ℕ) (from to : List ℕ) (said : CallResult) (m : Machine) → IsApart q m.tree to → IsSafe (after (asking_source number from to) said) m
+  source_safe number from to (says.Info source) m apart = cond_safe source.regular (asking_target number source from to) _ m apart tt
+  source_safe number from to said m apart = tt
 
-  pub copied_safe : (through : Bool) (source target : FileInfo) (from to : List ℕ) (m : Machine) → IsApart q m.tree to → IsSafe (copied through source target from to) m
-  copied_safe through source target from to m apart =
+  pub copied_safe : (number : ℕ) (through : Bool) (source target : FileInfo) (from to : List ℕ) (m : Machine) → IsApart q m.tree to → IsSafe (copied number through source target from to) m
+  copied_safe number through source target from to m apart =
       unless_safe target.kind _ m
       (cond_safe (pointwise nat_eq from to || is_same_node source target) _ _ m tt
-      (cond_safe (not target.regular) _ _ m tt (cond_safe through (resolving source.inode from to) (place_fresh source.inode from to) m apart ((apart.bytes, apart.stands), apart.avoids))))
+      (cond_safe (not target.regular) _ _ m tt (cond_safe through (resolving number from to) (place_fresh number from to) m apart ((apart.bytes, apart.stands), apart.avoids))))
 
-  pub target_safe : (source : FileInfo) (from to : List ℕ) (said : CallResult) (m n : Machine) → IsApart q n.tree to → n ≡ m → OccursSomehow m (asks.StatLink to) said n
-      → IsSafe (after (asking_target source from to) said) n
-  target_safe source from to (says.Info target) m n apart same h =
-      cond_so (is_link target.kind) (asking_end source from to) (copied false source target from to) n
+  pub target_safe : (number : ℕ) (source : FileInfo) (from to : List ℕ) (said : CallResult) (m n : Machine) → IsApart q n.tree to → n ≡ m → OccursSomehow m (asks.StatLink to) said n
+      → IsSafe (after (asking_target number source from to) said) n
+  target_safe number source from to (says.Info target) m n apart same h =
+      cond_so (is_link target.kind) (asking_end number source from to) (copied number false source target from to) n
       (λ link. (apart, subst (λ (x : Machine). IsLinkAt x.tree to) (sym same) (link_shown to m n target link h)))
-      (λ other. copied_safe false source target from to n apart)
-  target_safe source from to (says.Failed why) m n apart same h =
-      cond_safe (is_absent why) (place_fresh source.inode from to) (over (says.Failed why)) n ((apart.bytes, apart.stands), apart.avoids) tt
-  target_safe source from to said m n apart same h = tt
+      (λ other. copied_safe number false source target from to n apart)
+  target_safe number source from to (says.Failed why) m n apart same h =
+      cond_safe (is_absent why) (place_fresh number from to) (over (says.Failed why)) n ((apart.bytes, apart.stands), apart.avoids) tt
+  target_safe number source from to said m n apart same h = tt
 
-  pub end_safe : (source : FileInfo) (from to : List ℕ) (said : CallResult) (m n : Machine) → IsApart q n.tree to → IsLinkAt m.tree to → n ≡ m → OccursSomehow m (asks.Stat to) said n
-      → IsSafe (after (asking_end source from to) said) n
-  end_safe source from to (says.Info target) m n apart link same h = copied_safe true source target from to n apart
-  end_safe source from to (says.Failed why) m n apart link same h =
-      cond_so (is_absent why) (making_end source.inode from to) (over (says.Failed why)) n
+  pub end_safe : (number : ℕ) (source : FileInfo) (from to : List ℕ) (said : CallResult) (m n : Machine) → IsApart q n.tree to → IsLinkAt m.tree to → n ≡ m → OccursSomehow m (asks.Stat to) said n
+      → IsSafe (after (asking_end number source from to) said) n
+  end_safe number source from to (says.Info target) m n apart link same h = copied_safe number true source target from to n apart
+  end_safe number source from to (says.Failed why) m n apart link same h =
+      cond_so (is_absent why) (making_end number from to) (over (says.Failed why)) n
       (λ absent. subst (λ (x : Machine). IsBarred x.tree to) (sym same) (barred to why m n link absent h)) (λ other. tt)
-  end_safe source from to said m n apart link same h = tt
+  end_safe number source from to said m n apart link same h = tt
 
   pub made_end_safe : (number : ℕ) (from to : List ℕ) (said : CallResult) (m n : Machine) → IsBarred m.tree to → OccursSomehow m (asks.OpenToAppend to) said n
       → IsSafe (after (making_end number from to) said) n

@@ -1,11 +1,11 @@
 -- Callers as the contracts of their stores see them, beside those whose handles are as on the machine.
-use Rattle.std.proofs.Common.{◌≡◌, ◌≤◌, ◌^◌, ◌+◌, ◌==◌, ℕ, Bool, true, false, cond, List, [], ◌∷◌, Option, None, Some, option_map, refl, sym, ap, subst, ◌∙◌}
+use Rattle.std.proofs.{lemmas.Grind.{common_steps}, Common.{rules, arith, ◌≡◌, ◌≤◌, ◌^◌, ◌+◌, ◌==◌, ℕ, Bool, cond, List, [], ◌∷◌, Option, None, Some, option_map, refl, sym, ap, subst, ◌∙◌}}
 use Rattle.cacache_store.specs.declared.store.plain.PlainFile.{PlainFile}
-use Rattle.cacache_value.specs.OpeningTrees.{LieApart}
+use Rattle.cacache_value.specs.Placed.{LieApart}
 use Rattle.cacache_system.specs.{Seen.{NumberedFile, NumberedTemp, NumberedAnswer}, AnswersOf.{answer_of}}
 use Rattle.cacache_system_model.specs.{Machine.{Machine}, Laws.{answer_on}, Chains.{StepMade}, callers.{Acts.{Act, begins, steps as makes, ends, stops, answer_in, unless_ended, EachMay}, Made.{now_left, CacheOn, system_at}, Storing.{MayStore}, Seen.{SeenState, handed, handed_open, answer_seen, step_seen, after_seen, IsOnHeld, SparesTemps, MakesSeenStep, MayActSeen, EachSeen, seen_at, SeenMakeHistories}}}
 use Rattle.cacache_system_model.proofs.callers.{NextActs.{NumberedState, numbered_after, MakesNextStep, MayNext}, WithoutBytes.{without_bytes, Alike, alike_after, wanted_plain, none_plain, ends_plain, walking_without, temp_alike}, Covering.{storing_makes_histories}, NextSteps.{Holds}, Numbering.{may_store, next_act, first_holds}}
-use Rattle.cacache_calls.specs.{declared.{reply.Reply.{Reply}, visit.Visit.TheVariants.{RemoveFile}}, State.{State, walking}, Table.{after, opening}, Sound.{MayBegin}}
+use Rattle.cacache_calls.specs.{declared.{reply.Reply.{Reply}, visit.Visit.TheVariants.{RemoveFile}}, State.{State, walking}, Table.{after}, Sound.{MayBegin}}
 use Rattle.cacache_history.specs.{Setup.{Setup, call_site, home, may_export, is_outside}, History.{Now, now_after}}
 
 -- there is a call in both, in states that are alike, or in neither
@@ -29,8 +29,7 @@ has_state None (Some c) state same is = (let no : None ≡ Some (without_bytes c
 has_state o None state same is = (let no : None ≡ Some state = is in absurd cc)
 
 no_state : (o x : Option State) → AreAlike o x → x ≡ None → o ≡ None
-no_state None x same is = refl
-no_state (Some s) x same is = let no : Some (without_bytes s) ≡ None = same ∙ ap (option_map without_bytes) is in absurd cc
+no_state o x same is = grind (arith, without_bytes)
 
 -- what a clear spares, it spares whatever handles hold
 spares_alike : (states others : ℕ → Option State) → ((k : ℕ) → AreAlike (states k) (others k)) → (s c : State) → Alike s c → SparesTemps others c → SparesTemps states s
@@ -42,20 +41,14 @@ spares_alike states others same (walking w (RemoveFile p) todo) c alike spares =
 spares_alike states others same s c alike spares = tt
 
 set_alike : (b : Bool) (x a y o : Option State) → AreAlike y x → AreAlike o a → AreAlike (cond b y o) (cond b x a)
-set_alike true x a y o h k = h
-set_alike false x a y o h k = k
+set_alike b x a y o h k = grind (arith, common_steps)
 
 set_held : {A : Type 0} (b : Bool) (x a y o : Option A) → x ≡ y → a ≡ o → cond b x a ≡ cond b y o
-set_held true x a y o h k = h
-set_held false x a y o h k = k
+set_held b x a y o h k = grind (arith, common_steps)
 
 moved_alike : (reply : Option Reply) (m : Machine) (answer : NumberedAnswer) (o x : Option State) → AreAlike o x
     → AreAlike (unless_ended reply (option_map (λ (state : State). after state (answer_on m answer)) o)) (unless_ended reply (option_map (λ (state : State). after state (answer_seen answer)) x))
-moved_alike (Some r) m answer o x same = refl
-moved_alike None m answer None None same = refl
-moved_alike None m answer (Some s) (Some c) same = ap (λ (state : State). Some state) (alike_after m s c answer (let is : Some (without_bytes s) ≡ Some (without_bytes c) = same in cc))
-moved_alike None m answer None (Some c) same = (let no : None ≡ Some (without_bytes c) = same in absurd cc)
-moved_alike None m answer (Some s) None same = (let no : Some (without_bytes s) ≡ None = same in absurd cc)
+moved_alike reply m answer o x same = grind (arith, alike_after, without_bytes)
 
 module _ (s : Setup) (c : SeenState) (f : NumberedState) (now : Now) (all : Holds s f now) (sees : Sees c f) where
   makes_next : (caller : ℕ) (made : StepMade) (reply : Option Reply) → MakesSeenStep c caller made reply → MakesNextStep f caller made reply
@@ -94,14 +87,7 @@ module _ (s : Setup) (c : SeenState) (f : NumberedState) (now : Now) (all : Hold
       let g = has_state (f.system.states caller) (c.states caller) state (sees.states caller) stands in (g.0, g.1)
 
   sees_next : (act : Act) → MayActSeen s c act → Sees (after_seen s c act) (numbered_after s f act)
-  sees_next (begins caller command) (within, free, may, named, few) = record {
-    machine = sees.machine;
-    states = λ k. set_alike (k == caller) (Some (opening (call_site s c.begun) command)) (c.states k) (Some (opening (call_site s f.system.begun) command)) (f.system.states k)
-        (ap (λ n. Some (without_bytes (opening (call_site s n) command))) (sym sees.begun)) (sees.states k);
-    held = sees.held;
-    opened = sees.opened;
-    begun = ap (λ (n : ℕ). n + 1) sees.begun;
-  }
+  sees_next (begins caller command) (within, free, may, named, few) = search (rules, set_alike, without_bytes)
   sees_next (makes caller made reply) m = record {
     machine = refl;
     states = λ k. set_alike (k == caller) _ (c.states k) _ (f.system.states k)
@@ -112,20 +98,8 @@ module _ (s : Setup) (c : SeenState) (f : NumberedState) (now : Now) (all : Hold
         (ap (handed_open made.after (answer_of made.step made.end)) (sees.opened caller)) (sees.opened k);
     begun = sees.begun;
   }
-  sees_next (ends caller reply) may = record {
-    machine = sees.machine;
-    states = λ k. set_alike (k == caller) None (c.states k) None (f.system.states k) refl (sees.states k);
-    held = sees.held;
-    opened = sees.opened;
-    begun = sees.begun;
-  }
-  sees_next (stops caller) may = record {
-    machine = sees.machine;
-    states = λ k. set_alike (k == caller) None (c.states k) None (f.system.states k) refl (sees.states k);
-    held = sees.held;
-    opened = sees.opened;
-    begun = sees.begun;
-  }
+  sees_next (ends caller reply) may = search (rules, set_alike)
+  sees_next (stops caller) may = search (rules, set_alike)
 
 seen_stores : (s : Setup) (apart : LieApart (home s) s.outside) (acts : List Act) (c : SeenState) (f : NumberedState) (now : Now) → Holds s f now → Sees c f → EachSeen s c acts → EachMay (MayStore s) s f.system acts
 seen_stores s apart [] c f now all sees each = tt

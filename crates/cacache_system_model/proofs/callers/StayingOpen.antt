@@ -1,13 +1,13 @@
 -- Files that are open stay open at their names through the calls of a step.
 use Rattle.std.proofs.Common.{◌≡◌, length, ◌==◌, ◌&&◌, not, ℕ, true, false, List, [], ◌∷◌, ◌++◌, None, Some, Ok, option_map, inl, inr, min, refl, sym, ap, subst, ◌∙◌}
 use Rattle.std_io.specs.declared.io.kind.ErrorKind.TheVariants as kind
-use Rattle.cacache_core.specs.PathNames.{Names, names_of}
+use Rattle.cacache_core.specs.Paths.{Names, names_of}
 use Rattle.cacache_store.specs.declared.store.step.Step.TheVariants as steps
 use Rattle.cacache_disk.{specs.{declared.{luck.Luck.TheVariants.{Plain, Fail, Take}, node.Node.TheVariants.{File}}, Tree.{Tree, put}, LedTo.{free}}, proofs.FoundNodes.{free_ok}}
-use Rattle.cacache_system.specs.{declared.call.{SystemCall.{SystemCall}, CallItem.{CallItem}, CallResult.{CallResult}}, Seen.{NumberedTemp, NumberedStep}, ListedNames.{with_slash}, CallsOf.{Stage, opening_folder, following, reading_names, asking_kind, over, only, trying, taking_memory, opening, checking, opening_whole, reading_front, measuring, reading_rest, appending, standing as asking_folder, making, confirming, sizing, asking_source, asking_target, asking_end, making_end, resolving, making_fresh, filling, replacing, scrapping, fresh_beside, fresh_number, wants, after, was_interrupted, keeping, preparing, Runs}, AnswersOf.{Hint, no_hint, is_missing, rewrites, persist, first}}
+use Rattle.cacache_system.specs.{declared.call.{SystemCall.{SystemCall}, CallItem.{CallItem}, CallResult.{CallResult}}, Seen.{NumberedTemp, NumberedStep, with_slash}, CallsOf.{Stage, opening_folder, following, reading_names, asking_kind, over, only, trying, taking_memory, opening, checking, opening_whole, reading_front, measuring, reading_rest, appending, standing as asking_folder, making, confirming, sizing, asking_source, asking_target, asking_end, making_end, resolving, making_fresh, filling, replacing, scrapping, fresh_beside, fresh_number, wants, after, was_interrupted, keeping, preparing, Runs}, AnswersOf.{Hint, is_missing, rewrites, persist, first}}
 use Rattle.cacache_system.specs.declared.call.SystemCall.TheVariants as asks
 use Rattle.cacache_system.specs.declared.call.CallResult.TheVariants as says
-use Rattle.cacache_system_model.specs.{Machine.{under, Machine, OpensIf}, Calls.{OccursSomehow, EachCall}, OneCall.{IsOpenAt}, callers.Opened.{KeepsOpen, IsApart, StillStores, RunsKeepOpen}}
+use Rattle.cacache_system_model.specs.{Machine.{under, Machine, OpensIf}, Calls.{OccursSomehow, EachCall}, StepLaws.{IsOpenAt}, callers.Opened.{KeepsOpen, IsApart, StillStores, RunsKeepOpen}}
 use Rattle.cacache_system_model.proofs.{callers.{ListCalls.{can_open, IsListing, folder_left, names_left}, CopyTargets.{spelled_left}, OpenCalls.{Moves, place_at, CanRead, keeps_same, keeps_self, IsOpenNumber, occurs_keep, front_left, rest_left, stat_left, readable_on}, UnchangedCalls.{look_left, link_look_left, readied, opens_number}, SafeStages.{IsSafe, cond_safe, checked_safe, front_safe, measured_safe, rest_safe, folder_safe, making_safe, confirming_safe, SafeLater, kept_safe, prepared_safe, file_safe, whole_safe, line_safe, listed_safe, kind_safe, opened_safe_folder, followed_safe, size_safe, source_safe, target_safe, end_safe, made_end_safe, resolved_safe, fresh_safe, filled_safe, replaced_safe}}, memory.Places.{place_led}}
 
 at_call : (a call : SystemCall) (m n : Machine) (said : CallResult) → Some a ≡ Some call → OccursSomehow m call said n → OccursSomehow m a said n
@@ -26,17 +26,17 @@ module _ (q : Names) where
       (left.0 (under q), cond_safe q (was_interrupted said) (trying true (asks.Read number size)) (over said) n (readable_on number m n safe left) tt)
   goes_safe (trying again c) m n call said safe w h = absurd safe
   goes_safe (sizing path) m n call said safe w h = (occurs_keep (asks.Stat path) q m n said tt (at_call (asks.Stat path) call m n said w h), size_safe q path said n)
-  goes_safe (asking_source from to) m n call said safe w h =
+  goes_safe (asking_source number from to) m n call said safe w h =
       let same = look_left from m n said (at_call (asks.Stat from) call m n said w h) in
-      (keeps_self (under q) m n same, source_safe q from to said n (subst (λ (x : Machine). IsApart q x.tree to) (sym same) safe))
-  goes_safe (asking_target source from to) m n call said safe w h =
+      (keeps_self (under q) m n same, source_safe q number from to said n (subst (λ (x : Machine). IsApart q x.tree to) (sym same) safe))
+  goes_safe (asking_target number source from to) m n call said safe w h =
       let happens = at_call (asks.StatLink to) call m n said w h in
       let same = link_look_left to m n said happens in
-      (keeps_self (under q) m n same, target_safe q source from to said m n (subst (λ (x : Machine). IsApart q x.tree to) (sym same) safe) same happens)
-  goes_safe (asking_end source from to) m n call said (apart, link) w h =
+      (keeps_self (under q) m n same, target_safe q number source from to said m n (subst (λ (x : Machine). IsApart q x.tree to) (sym same) safe) same happens)
+  goes_safe (asking_end number source from to) m n call said (apart, link) w h =
       let happens = at_call (asks.Stat to) call m n said w h in
       let same = look_left to m n said happens in
-      (keeps_self (under q) m n same, end_safe q source from to said m n (subst (λ (x : Machine). IsApart q x.tree to) (sym same) apart) link same happens)
+      (keeps_self (under q) m n same, end_safe q number source from to said m n (subst (λ (x : Machine). IsApart q x.tree to) (sym same) apart) link same happens)
   goes_safe (making_end number from to) m n call said safe w h =
       let happens = at_call (asks.OpenToAppend to) call m n said w h in (occurs_keep (asks.OpenToAppend to) q m n said tt happens, made_end_safe q number from to said m n safe happens)
   goes_safe (resolving number from to) m n call said safe w h =
@@ -96,15 +96,13 @@ module _ (q : Names) where
       λ number e. runs_keep (after s item.result) items end next n g.1 runs.1 others number (g.0 number e)
 
   dirs_safe : (hint : Hint) (p : List ℕ) (m : Machine) → IsSafe q (first hint (steps.MakeDirs p)) m
-  dirs_safe no_hint p m = tt
   dirs_safe is_missing p m = tt
-  dirs_safe (rewrites synced) p m = tt
+  dirs_safe hint p m = tt
 
   persist_safe : (hint : Hint) (temp : NumberedTemp) (path : List ℕ) (m : Machine) → IsOpenNumber m temp.number → SafeLater q (only (asks.Rename temp.path path)) m
       → IsSafe q (persist hint temp path) m
-  persist_safe no_hint temp path m open_file later = later m (refl, refl)
-  persist_safe is_missing temp path m open_file later = later m (refl, refl)
   persist_safe (rewrites synced) temp path m open_file later = (open_file, λ n same. later n same)
+  persist_safe hint temp path m open_file later = later m (refl, refl)
 
   first_safe : (hint : Hint) (step : NumberedStep) (m : Machine) → StillStores q m step → IsSafe q (first hint step) m
   first_safe hint (steps.MakeDirs p) m h = dirs_safe hint p m

@@ -1,12 +1,12 @@
 -- Calls that change neither the tree nor open files, and what is open once a file was opened.
-use Rattle.std.{proofs.Common.{◌≡◌, ℕ, Bool, cond, List, Option, None, Some, Ok, option_map, eq-eqb, refl, sym, ap, subst, ◌∙◌}, specs.Prelude.{Result, Err}}
+use Rattle.std.{proofs.Common.{rules, arith, ◌≡◌, ℕ, List, Option, Ok, refl, sym, ap, subst, ◌∙◌}, specs.Prelude.{Result, Err}}
 use Rattle.std_io.specs.declared.io.kind.ErrorKind.{ErrorKind}
-use Rattle.cacache_core.specs.{declared.errors.Fault.{Fault}, PathNames.{Names}}
-use Rattle.cacache_disk.specs.{declared.luck.Luck.TheVariants.{Plain, Fail, Take}, Tree.{Tree, look}, LedTo.{standing, leads, found, place, writable}}
+use Rattle.cacache_core.specs.{declared.errors.Fault.{Fault}, Paths.{Names}}
+use Rattle.cacache_disk.specs.{Tree.{Tree, look}, LedTo.{standing, leads, found, place}}
 use Rattle.cacache_system.specs.declared.call.{SystemCall.{SystemCall}, CallResult.{CallResult}}
 use Rattle.cacache_system.specs.declared.call.SystemCall.TheVariants as asks
 use Rattle.cacache_system.specs.declared.call.CallResult.TheVariants as says
-use Rattle.cacache_system_model.specs.{Machine.{under, OpenFile, Machine, OpensIf, with_file, unread, ShowsEnd, GivesOwner}, Calls.{GoesWell, LeavesPart, OccursSomehow}, OneCall.{IsOpenAt}}
+use Rattle.cacache_system_model.specs.{Machine.{under, OpenFile, Machine, OpensIf, with_file, unread, ShowsEnd, GivesOwner}, Calls.{GoesWell, LeavesPart, OccursSomehow}, StepLaws.{IsOpenAt}}
 use Rattle.cacache_system_model.proofs.{Steps.Opening.{open_of}, Views.{View, nowhere, a_folder, a_file, view}, callers.OpenCalls.{place_at, node_keeps, CanRead, IsOpenNumber, IsNamed, Readable, Synced}}
 
 -- ---- calls that change neither the tree nor the open files
@@ -18,18 +18,13 @@ unchanged_self : (m n : Machine) → n ≡ m → Unchanged m n
 unchanged_self m n same = (ap (λ (x : Machine). x.tree) same, ap (λ (x : Machine). x.files) same)
 
 shown_left : (r : Result Names Fault) (m n : Machine) (said : CallResult) → ShowsEnd r m said n → n ≡ m
-shown_left (Ok names) m n said h = node_keeps names m n said h
-shown_left (Err fault) m n said (why, is_said, of, memory, stays) = stays
+shown_left r m n said h = grind (arith, node_keeps)
 
 pub look_left : (path : List ℕ) (m n : Machine) (said : CallResult) → OccursSomehow m (asks.Stat path) said n → n ≡ m
-look_left path m n said (Plain, h) = shown_left (found m.tree path) m n said h
-look_left path m n said (Take most, h) = shown_left (found m.tree path) m n said h
-look_left path m n said (Fail fault part, (why, is_said, of, missed, left)) = left
+look_left path m n said holds = grind (arith, shown_left)
 
 pub link_look_left : (path : List ℕ) (m n : Machine) (said : CallResult) → OccursSomehow m (asks.StatLink path) said n → n ≡ m
-link_look_left path m n said (Plain, h) = shown_left (standing m.tree path) m n said h
-link_look_left path m n said (Take most, h) = shown_left (standing m.tree path) m n said h
-link_look_left path m n said (Fail fault part, (why, is_said, of, missed, left)) = left
+link_look_left path m n said holds = grind (arith, shown_left)
 
 -- a call that readies a temporary file to replace another
 abbrev pub Readies : Machine → SystemCall → Type 0
@@ -39,8 +34,7 @@ Readies m (asks.Sync number) = IsOpenNumber m number
 Readies m call = ⊥
 
 owner_left : (r : Result Names Fault) (m n : Machine) (said : CallResult) → GivesOwner r m said n → Unchanged m n
-owner_left (Ok names) m n said (is_said, same) = unchanged_self m n same
-owner_left (Err fault) m n said (why, is_said, of, memory, stays) = unchanged_self m n stays
+owner_left r m n said holds = grind (arith, unchanged_self)
 
 abbrev Moded : Machine → Machine → CallResult → OpenFile → Type 0
 Moded m n said file = (said ≡ says.Done) × (n ≡ m)
@@ -60,17 +54,10 @@ ready_left most (asks.Sync number) m n said (place, is) h =
 ready_left most call m n said ready h = absurd ready
 
 ready_failed : (call : SystemCall) (why : ErrorKind) (part : Option ℕ) (m n : Machine) → Readies m call → LeavesPart m call why part n → Unchanged m n
-ready_failed (asks.Write number bytes) why part m n ready h = absurd ready
-ready_failed (asks.OpenToAppend path) why part m n ready h = absurd ready
-ready_failed (asks.CreateNew path mode) why part m n ready h = absurd ready
-ready_failed (asks.CopyFile from to) why part m n ready h = absurd ready
-ready_failed (asks.Sync number) why part m n ready (tree, files, synced, folders) = (tree, files)
-ready_failed call why part m n ready h = unchanged_self m n h
+ready_failed call why part m n ready h = grind (arith, unchanged_self)
 
 pub readied : (call : SystemCall) (m n : Machine) (said : CallResult) → Readies m call → OccursSomehow m call said n → Unchanged m n
-readied call m n said ready (Plain, h) = ready_left None call m n said ready h
-readied call m n said ready (Take most, h) = ready_left (Some most) call m n said ready h
-readied call m n said ready (Fail fault part, (why, is_said, of, missed, left)) = ready_failed call why part m n ready left
+readied call m n said ready holds = grind (arith, ready_left, ready_failed)
 
 -- ---- files that are opened
 
@@ -83,9 +70,7 @@ found_reads t path names e = by (view t path)
     by (a_file at bytes leads is here file) = let same : Ok at ≡ Ok names = sym is ∙ e in let names_are : at ≡ names = cc in subst CanRead (sym (ap (look t) (sym names_are) ∙ here)) tt
 
 here_opened : (m n : Machine) (number k : ℕ) (names : Names) → number ≡ k → n.files ≡ with_file m.files k (unread names) → IsOpenAt n number names
-here_opened m n number k names same files =
-    ap (λ (fs : ℕ → Option OpenFile). option_map place_at (fs number)) files
-    ∙ ap (λ (b : Bool). option_map place_at (cond b (Some (unread names)) (m.files number))) (eq-eqb number k same)
+here_opened m n number k names same files = search (rules, place_at)
 
 opens_ready : (r : Result Names Fault) (m n : Machine) (number : ℕ) → ((names : Names) → r ≡ Ok names → CanRead (look m.tree names)) → OpensIf r (λ names. m.tree) m (says.Opened number) n
     → Readable n number
@@ -95,9 +80,7 @@ opens_ready (Ok names) m n number can (k, is_said, none, (tree, files, synced, f
 opens_ready (Err fault) m n number can (why, is_said, of, memory, stays) = let no : says.Opened number ≡ says.Failed why = is_said in absurd cc
 
 pub open_ready : (path : List ℕ) (m n : Machine) (number : ℕ) → OccursSomehow m (asks.OpenToRead path) (says.Opened number) n → Readable n number
-open_ready path m n number (Plain, h) = opens_ready (found m.tree path) m n number (found_reads m.tree path) h
-open_ready path m n number (Take most, h) = opens_ready (found m.tree path) m n number (found_reads m.tree path) h
-open_ready path m n number (Fail fault part, (why, is_said, of, missed, left)) = let no : says.Opened number ≡ says.Failed why = is_said in absurd cc
+open_ready path m n number holds = grind (arith, opens_ready, found_reads)
 
 pub opens_number : (r : Result Names Fault) (new : Names → Tree) (m n : Machine) (number : ℕ) → OpensIf r new m (says.Opened number) n → (names : Names) × (r ≡ Ok names) × IsOpenAt n number names
 opens_number (Ok names) new m n number (k, is_said, none, (tree, files, synced, folders)) =
@@ -105,6 +88,4 @@ opens_number (Ok names) new m n number (k, is_said, none, (tree, files, synced, 
 opens_number (Err fault) new m n number (why, is_said, of, memory, stays) = let no : says.Opened number ≡ says.Failed why = is_said in absurd cc
 
 pub append_ready : (path : List ℕ) (m n : Machine) (number : ℕ) → OccursSomehow m (asks.OpenToAppend path) (says.Opened number) n → IsNamed n number
-append_ready path m n number (Plain, h) = let g = opens_number (writable m.tree path) _ m n number h in (g.0, g.2)
-append_ready path m n number (Take most, h) = let g = opens_number (writable m.tree path) _ m n number h in (g.0, g.2)
-append_ready path m n number (Fail fault part, (why, is_said, of, missed, left)) = let no : says.Opened number ≡ says.Failed why = is_said in absurd cc
+append_ready path m n number holds = grind (arith, opens_number)

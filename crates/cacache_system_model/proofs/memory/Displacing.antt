@@ -1,9 +1,9 @@
 -- What removals and moves leave of a system in memory: its tree and its open files.
 use Rattle.std.proofs.{lemmas.List.{map-append, map_more}, Common.{◌≡◌, ℕ, ◌+◌, ◌<◌, List, [], ◌∷◌, ◌++◌, map, take, length, get_or, refl, sym, ap, subst, ◌∙◌}}
 use Rattle.std.specs.{Prelude.{⊤, Option, None, Some, Result, Ok, Err, MatchResult, IsOkAnd, IsErrAnd}, Bool.{nat_eq}, Ordering.{nat_cmp}, Cmp.Lexicographic.{pointwise, slice_cmp, lists_ties, texts_ties}}
-use Rattle.cacache_core.specs.{declared.errors.Fault.{Fault}, PathNames.{Names}}
+use Rattle.cacache_core.specs.{declared.errors.Fault.{Fault}, Paths.{Names}}
 use Rattle.cacache_store.specs.declared.store.step.Step.TheVariants as steps
-use Rattle.cacache_disk.specs.{declared.{node.Node.{Node, TheVariants.{File, Link}}, stop.Stop.{Stop}}, Tree.{Tree, look, put, cut, same_path}, LedTo.{place, replaceable, removable, emptied, folder}, Stops.{Stops}}
+use Rattle.cacache_disk.specs.{declared.{node.Node.{Node, TheVariants.{File, Link}}, stop.Stop.{Stop}}, Tree.{Tree, look, put, cut, same_path}, LedTo.{place, replaceable, removable, emptied, folder}, Plans.{Stops}}
 use Rattle.cacache_disk.proofs.FoundNodes.{place_ok, removable_ok, emptied_ok, replaceable_ok}
 use Rattle.cacache_disk.specs.declared.stop.Stop.TheVariants as stop
 use Rattle.cacache_system_model.specs.{declared.memory.{files.OpenFile.{OpenFile}, state.Memory.{Memory}}, memory.{Changes.{Does, Changed, Movable, IsUnmoved}, Files.{place_of, open_of, left, ArePlaced, Displaces, MovesFile, MovesPath}}, Machine.{with_place}}
@@ -33,9 +33,6 @@ replaceable_bad t path stop.OutOfMemory e = tt
 pub stays : (ends : Result Names Fault) (tree : Names → Tree) (from : Option Names) (m : Memory) (why : Stop) → Stops why ends → Displaces ends tree from m (Err why) m
 stays ends tree from m (stop.Fault fault) e = (e, (refl, refl))
 stays ends tree from m stop.OutOfMemory e = (refl, refl)
-
-pub no_memory : (ends : Result Names Fault) (tree : Names → Tree) (from : Option Names) (m : Memory) → Displaces ends tree from m (Err stop.OutOfMemory) m
-no_memory ends tree from m = (refl, refl)
 
 pub refused : (ends : Result Names Fault) (tree : Names → Tree) (from : Option Names) (m n : Memory) (why : Stop) → Changed ends tree (Err why) m.disk n.disk → n.files.items ≡ m.files.items
     → Displaces ends tree from m (Err why) n

@@ -1,10 +1,10 @@
 -- That what the calls do to the tree is what the model says.
-use Rattle.std.proofs.{lemmas.Option.{slice_get-map}, Common.{◌≡◌, ◌∙◌, ℕ, Bool, true, false, List, option_map, slice_get, refl, sym, ap, inl, inr}}
+use Rattle.std.proofs.{lemmas.{Grind.{common_steps}, Option.{slice_get-map}}, Common.{rules, arith, ◌≡◌, ◌∙◌, ℕ, Bool, true, false, List, option_map, slice_get, refl, sym, ap, inl, inr}}
 use Rattle.std.specs.Prelude.{◌⊎◌, ⊤, Option, None, Some, Result, Ok, Err, IfSome, IsSomeAnd, MatchResult}
 use Rattle.std_io.specs.declared.io.kind.ErrorKind.{ErrorKind}
 use Rattle.std_io.specs.declared.io.kind.ErrorKind.TheVariants as kind
-use Rattle.cacache_core.specs.{Contexts.{fault_of}, declared.errors.Fault.{Fault, TheVariants.{Unsupported, ShortAppend, Closed, OtherBytes, Cancelled}}, PathNames.{Names}}
-use Rattle.cacache_disk.specs.{declared.{node.Node.{Node, TheVariants.{File, Link}}, stop.Stop.{Stop}}, Tree.{Tree, look, put, cut}, LedTo.{place, replaceable}}
+use Rattle.cacache_core.specs.{Errors.{fault_of}, declared.errors.Fault.{Fault, TheVariants.{Unsupported, ShortAppend, Closed, OtherBytes, Cancelled}}, Paths.{Names}}
+use Rattle.cacache_disk.specs.{declared.{node.Node.{Node}, stop.Stop.{Stop}}, Tree.{Tree, look, put}, LedTo.{place, replaceable}}
 use Rattle.cacache_disk.specs.declared.stop.Stop.TheVariants as stop
 use Rattle.cacache_system.specs.{declared.call.{FileInfo.{FileInfo}, CallResult.{CallResult}}, AnswersOf.{refuses_memory}}
 use Rattle.cacache_system.specs.declared.call.SystemCall.TheVariants as asks
@@ -24,15 +24,10 @@ is_unsaid Cancelled = true
 is_unsaid fault = false
 
 errors_say : (why : ErrorKind) → is_unsaid (fault_of why) ≡ false
-errors_say kind.NotFound = refl
-errors_say _ = refl
+errors_say why = grind (arith, common_steps)
 
 kinds_say : (fault : Fault) → is_unsaid fault ≡ false → (fault_of (kind_for fault) ≡ fault) × (refuses_memory (kind_for fault) ≡ false)
-kinds_say ShortAppend e = absurd cc
-kinds_say Closed e = absurd cc
-kinds_say OtherBytes e = absurd cc
-kinds_say Cancelled e = absurd cc
-kinds_say _ e = (refl, refl)
+kinds_say fault e = grind (arith, common_steps)
 
 pub refused : (t u : Tree) (files : List OpenFile) (fault : Fault) (out : CallResult) → CanSay fault → out ≡ says.Failed (kind_for fault) → u ≡ t
     → IsRefused fault (machine t files) out (machine u files)
@@ -54,19 +49,13 @@ same_fault {A = A} r one other x y = let e : ◌≡◌ {A = Result A Fault} (Err
 pub goes_changed : (t u : Tree) (files : List OpenFile) (ends : Result Names Fault) (new : Names → Tree) (done : Result ⊤ Stop) (out : CallResult) → Sayable ends
     → out ≡ outcome (λ _. says.Done) done → Changed ends new done t u
     → ChangesTree ends new (machine t files) out (machine u files) ⊎ GivesUp kind.OutOfMemory (machine t files) out (machine u files)
-goes_changed t u files ends new (Err stop.OutOfMemory) out can is change = inr (gives_up t u files kind.OutOfMemory out is change)
-goes_changed t u files (Ok names) new (Ok done) out can is change = inl (is, (change, refl, refl, λ k. refl))
-goes_changed t u files (Ok names) new (Err (stop.Fault fault)) out can is change = absurd (apart (Ok names) names fault refl change.0)
-goes_changed t u files (Err own) new (Ok done) out can is change = absurd change
-goes_changed t u files (Err own) new (Err (stop.Fault fault)) out can is change =
-    inl (refused t u files own out can (is ∙ ap (λ fault. says.Failed (kind_for fault)) (same_fault {A = Names} (Err own) own fault refl change.0)) change.1)
+goes_changed t u files ends new done out can is change = grind (arith, gives_up, apart, refused, same_fault)
 
 pub goes_linked : (t u : Tree) (files : List OpenFile) (source : Result Node Fault) (ends : Result Names Fault) (done : Result ⊤ Stop) (out : CallResult) → LinkSayable source ends
     → Sayable ends → out ≡ outcome (λ _. says.Done) done
     → MatchResult source (λ node. Changed ends (λ names. put t names node) done t u) (λ fault. Stopped (link_fault fault ends) done t u)
     → LinksNode source ends (machine t files) out (machine u files) ⊎ GivesUp kind.OutOfMemory (machine t files) out (machine u files)
-goes_linked t u files (Ok node) ends done out first can is change = goes_changed t u files ends (λ names. put t names node) done out can is change
-goes_linked t u files (Err fault) ends done out first can is change = goes_changed t u files (Err (link_fault fault ends)) (λ names. t) done out first is change
+goes_linked t u files source ends done out first can is change = grind (arith, goes_changed)
 
 -- ---- removals and moves
 
@@ -109,22 +98,16 @@ goes_displaced (Err own) tree from m n (Err (stop.Fault fault)) out can is (same
 -- a link isn't moved
 kept_link : (m n : Memory) (done : Result ⊤ Stop) (out : CallResult) → out ≡ outcome (λ _. says.Done) done → Displaces (Err Unsupported) (λ names. m.disk) None m done n
     → GivesUp kind.OutOfMemory (machine m.disk m.files.items) out (machine n.disk n.files.items) ⊎ GivesUp kind.Unsupported (machine m.disk m.files.items) out (machine n.disk n.files.items)
-kept_link m n (Ok done) out is change = absurd change
-kept_link m n (Err (stop.Fault fault)) out is (same, stays) =
-    inr (kept_so m n kind.Unsupported out (is ∙ ap (λ fault. says.Failed (kind_for fault)) (same_fault {A = Names} (Err Unsupported) Unsupported fault refl same)) stays)
-kept_link m n (Err stop.OutOfMemory) out is stays = inl (kept_so m n kind.OutOfMemory out is stays)
+kept_link m n done out is change = grind (arith, kept_so, same_fault)
 
 nested : {A B C : Type 0} → B ⊎ C → (A ⊎ B) ⊎ C
-nested (inl b) = inl (inr b)
-nested (inr c) = inr c
+nested which = grind (arith, common_steps)
 
 goes_from : (m n : Memory) (old : Names) (here : Option Node) (ends : Result Names Fault) (done : Result ⊤ Stop) (out : CallResult) → Sayable ends → out ≡ outcome (λ _. says.Done) done
     → MovesFile old here ends m done n
     → (MovesNode old here ends (machine m.disk m.files.items) out (machine n.disk n.files.items) ⊎ GivesUp kind.OutOfMemory (machine m.disk m.files.items) out (machine n.disk n.files.items))
     ⊎ GivesUp kind.Unsupported (machine m.disk m.files.items) out (machine n.disk n.files.items)
-goes_from m n old (Some (File bytes)) ends done out can is change = inl (goes_displaced ends (λ new. put (cut m.disk old) new (File bytes)) (Some old) m n done out can is change)
-goes_from m n old (Some (Link target)) ends done out can is change = nested (kept_link m n done out is change)
-goes_from m n old here ends done out can is change = inl (inl tt)
+goes_from m n old here ends done out can is change = grind (arith, goes_displaced, nested, kept_link)
 
 moved_from : (m n : Memory) (to : List ℕ) (from : Result Names Fault) (done : Result ⊤ Stop) (out : CallResult) → Sayable from → Sayable (replaceable m.disk to) → out ≡ outcome (λ _. says.Done) done
     → MatchResult from (λ old. MovesFile old (look m.disk old) (replaceable m.disk to) m done n) (λ fault. Displaces (Err fault) (λ names. m.disk) None m done n)
@@ -132,8 +115,7 @@ moved_from : (m n : Memory) (to : List ℕ) (from : Result Names Fault) (done : 
     (λ fault. IsRefused fault (machine m.disk m.files.items) out (machine n.disk n.files.items))
     ⊎ GivesUp kind.OutOfMemory (machine m.disk m.files.items) out (machine n.disk n.files.items))
     ⊎ GivesUp kind.Unsupported (machine m.disk m.files.items) out (machine n.disk n.files.items)
-moved_from m n to (Ok old) done out first can is change = goes_from m n old (look m.disk old) (replaceable m.disk to) done out can is change
-moved_from m n to (Err fault) done out first can is change = inl (goes_displaced (Err fault) (λ names. m.disk) None m n done out first is change)
+moved_from m n to from done out first can is change = grind (arith, goes_from, goes_displaced)
 
 pub goes_moved : (m n : Memory) (from to : List ℕ) (done : Result ⊤ Stop) (out : CallResult) → Sayable (place m.disk from) → Sayable (replaceable m.disk to) → out ≡ outcome (λ _. says.Done) done
     → MovesPath from to m done n
@@ -142,12 +124,10 @@ pub goes_moved : (m n : Memory) (from to : List ℕ) (done : Result ⊤ Stop) (o
 goes_moved m n from to done out first can is change = moved_from m n to (place m.disk from) done out first can is change
 
 pub described : (node : Node) → Describes node (0, 0) (info_of node)
-described (File bytes) = record { kind = refl; regular = refl; size = refl; number = refl }
-described node = record { kind = refl; regular = refl; size = tt; number = refl }
+described node = grind (arith, common_steps)
 
 describes : (here : Option Node) (info : FileInfo) → IsSomeAnd here (λ node. info ≡ info_of node) → IfSome here (λ node. Describes node (0, 0) info)
-describes None info is = tt
-describes (Some node) info is = rw is (described node)
+describes here info is = grind (arith, described)
 
 pub goes_shown : (t : Tree) (files : List OpenFile) (ends : Result Names Fault) (info : Result FileInfo Stop) (out : CallResult) → Sayable ends → out ≡ outcome says.Info info
     → Shown ends t info
@@ -156,5 +136,4 @@ goes_shown t files ends (Err stop.OutOfMemory) out can is shown = inr (is, refl)
 goes_shown t files (Ok names) (Ok info) out can is shown = inl (info, is, describes (look t names) info shown, refl)
 goes_shown t files (Ok names) (Err (stop.Fault fault)) out can is shown = absurd (apart (Ok names) names fault refl shown)
 goes_shown t files (Err own) (Ok info) out can is shown = absurd shown
-goes_shown t files (Err own) (Err (stop.Fault fault)) out can is shown =
-    inl (refused t t files own out can (is ∙ ap (λ fault. says.Failed (kind_for fault)) (same_fault {A = Names} (Err own) own fault refl shown)) refl)
+goes_shown t files (Err own) (Err (stop.Fault fault)) out can is shown = search (rules, refused, same_fault)

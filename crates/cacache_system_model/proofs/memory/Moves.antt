@@ -1,11 +1,11 @@
 -- Hard links and moves, which first look at their source.
 use Rattle.std.{proofs.Common.{◌≡◌, ℕ, List, refl, sym, ap}, specs.Prelude.{⊤, Option, Some, Result, Ok, Err, MatchResult, IsOk}}
-use Rattle.cacache_core.specs.{declared.errors.Fault.{Fault, TheVariants.{IsADirectory, Device}}, PathNames.{Names}}
+use Rattle.cacache_core.specs.{declared.errors.Fault.{Fault, TheVariants.{IsADirectory, Device}}, Paths.{Names}}
 use Rattle.cacache_store.specs.declared.store.step.Step.TheVariants as steps
-use Rattle.cacache_disk.specs.{declared.{node.Node.{Node, TheVariants.{File}}, stop.Stop.{Stop}}, Tree.{Tree, look, put, cut}, LedTo.{place, free, replaceable, kept, linked, linked_in}, Apply.{apply}, Stops.{Stops}}
+use Rattle.cacache_disk.specs.{declared.{node.Node.{Node, TheVariants.{File}}, stop.Stop.{Stop}}, Tree.{Tree, look, put, cut}, LedTo.{place, free, replaceable, kept, linked, linked_in}, Apply.{apply}, Plans.{Stops}}
 use Rattle.cacache_disk.specs.declared.stop.Stop.TheVariants as stop
 use Rattle.cacache_system_model.specs.{memory.Changes.{Does, Changed, Linked, Movable, IsUnmoved, Stopped, Unlinks}, Machine.{link_fault}}
-use Rattle.cacache_system_model.proofs.memory.Steps.{changes, place_parts}
+use Rattle.cacache_system_model.proofs.memory.Occurring.{changes, place_parts}
 
 -- ---- hard links
 

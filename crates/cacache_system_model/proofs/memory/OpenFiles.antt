@@ -2,13 +2,13 @@
 use Rattle.std.proofs.{Math.Seq.{take-length}, lemmas.{List.{length-map}, Option.{slice_get-map, slice_get_past, slice_get_within}}, Common.{◌≡◌, ◌∙◌, ◌==◌, ℕ, Bool, true, false, if◌then◌else◌, List, [], ◌∷◌, ◌++◌, map, take, drop, length, option_map, slice_get, refl, sym, ap, subst, inl, inr, arith}}
 use Rattle.std.specs.Prelude.{◌⊎◌, ⊤, Option, None, Some, Result, Ok, Err, IfSome, IsSome, IsSomeAnd, slice_set}
 use Rattle.std_io.specs.declared.io.kind.ErrorKind.TheVariants as kind
-use Rattle.cacache_core.specs.{declared.errors.Fault.{Fault, TheVariants.{Device, IsADirectory}}, PathNames.{Names}}
+use Rattle.cacache_core.specs.{declared.errors.Fault.{Fault, TheVariants.{Device, IsADirectory}}, Paths.{Names}}
 use Rattle.cacache_disk.specs.{declared.{node.Node.{Node, TheVariants.{Folder, File}}, stop.Stop.{Stop}}, Tree.{Tree, look}}
 use Rattle.cacache_disk.specs.declared.stop.Stop.TheVariants as stop
 use Rattle.cacache_system.specs.declared.call.{FileInfo.{FileInfo}, CallResult.{CallResult}}
 use Rattle.cacache_system.specs.declared.call.CallResult.TheVariants as says
-use Rattle.cacache_system_model.specs.{Machine.{Place, under, nameless, Machine, OnOpen, CopiesTo, Describes, grown, node_of, unread, with_file, Became, Grows, IsRefused, IsUnused, OpensIf, ReadsFile, ReadsOpen, WritesOpen, ShowsPlace, ShowsOpen, GivesOwner, GivesMode, CopiesBytes}, declared.memory.{files.OpenFile.{OpenFile}, state.Memory.{Memory}}, memory.{Stopping.{kind_of, kind_for, outcome}, Changes.{Changed}, Files.{place_of, open_of, IsSame, Opens, IsNoFile, IsRest, IsBad, Fails, Gives, Reads, read_more, Lengthens, Writes, IsOpen, open_info, ShownOpen, Copied}, Machines.{machine, GivesUp}}}
-use Rattle.cacache_system_model.proofs.{Saying.{Sayable}, memory.{Goings.{refused, refused_so, kept_so, same_machine, same_fault, placed_anew, described, apart}, Indexes.{at_put, at_end}}}
+use Rattle.cacache_system_model.specs.{Machine.{Place, under, nameless, Machine, OnOpen, CopiesTo, Describes, grown, node_of, unread, with_file, Grows, IsRefused, IsUnused, OpensIf, ReadsFile, ReadsOpen, WritesOpen, ShowsPlace, ShowsOpen, GivesOwner, GivesMode, CopiesBytes}, declared.memory.{files.OpenFile.{OpenFile}, state.Memory.{Memory}}, memory.{Stopping.{kind_of, kind_for, outcome}, Changes.{Changed}, Files.{place_of, open_of, IsSame, Opens, IsNoFile, IsRest, IsBad, Fails, Gives, Reads, read_more, Lengthens, Writes, IsOpen, open_info, ShownOpen, Copied}, Machines.{machine, GivesUp}}}
+use Rattle.cacache_system_model.proofs.{Saying.{Sayable}, memory.{Goings.{refused, refused_so, kept_so, same_machine, same_fault, placed_anew, described, apart}, Places.{at_put, at_end}}}
 use Rattle.cacache_system_model.specs.Machine as model
 
 -- ---- refusals

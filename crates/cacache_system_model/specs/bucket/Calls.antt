@@ -1,7 +1,7 @@
 -- The calls of an append and of a read of a whole file, and how they happen on a bucket's file.
 use Rattle.std.specs.{Prelude.{◌≡◌, ◌≤◌, ℕ, Bool, true, List, [], ◌∷◌, ◌++◌, Some, length, flat_map}, List.{AllByRecursion}}
 use Rattle.cacache_store.specs.declared.store.step.Step.TheVariants as steps
-use Rattle.cacache_system.specs.{declared.call.{SystemCall.{SystemCall}, CallItem.{CallItem}, CallResult.{CallResult, TheVariants.{Opened, Count, Bytes, Info, Failed}}}, CallLog.{item}, CallsOf.{Runs, was_interrupted}, AnswersOf.{Hint, first}}
+use Rattle.cacache_system.specs.{declared.call.{SystemCall.{SystemCall}, CallItem.{CallItem}, CallResult.{CallResult, TheVariants.{Opened, Count, Bytes, Info, Failed}}}, Seen.{item}, CallsOf.{Runs, was_interrupted}, AnswersOf.{Hint, first}}
 use Rattle.cacache_system.specs.declared.call.SystemCall.TheVariants as asks
 use Rattle.cacache_entry.specs.{Entry.{Entry, line_of, closed_line}, FittingEntries.{IsEntry, IsWritable}}
 use Rattle.cacache_system_model.specs.bucket.{File.{LineWrite, BucketFile, Event, OpensToAppend, Answers, Opens, Ends, bytes_to_write, idle, file_after, file_of, Happen}, Moments.{ReadOf, HasEntry}}

@@ -1,6 +1,6 @@
 -- What readers of a bucket's file read while others append to it.
 use Rattle.std.specs.Prelude.{◌≡◌, ◌≤◌, ◌⊎◌, ℕ, List, [], ◌∷◌, ◌++◌, Option, Some, length, fold}
-use Rattle.cacache_entry.specs.{Entry.{Entry, line_of}, Bucket.{entries_of}, Latest.{Found, answer_to, after_entry, latest, NoneAnswers}}
+use Rattle.cacache_entry.specs.{Entry.{Entry, line_of}, Bucket.{entries_of, Found, answer_to, after_entry, latest, NoneAnswers}}
 use Rattle.cacache_value.specs.ValueLaws.{IsLonger}
 use Rattle.cacache_system_model.specs.bucket.File.{IsBeginning, LineWrite, Event, Starts, Answers, Opens, Ends, idle, file_of, Happen, all_completed, whole_entries}
 

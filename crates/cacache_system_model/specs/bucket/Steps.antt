@@ -1,10 +1,10 @@
 -- The writes and reads of a bucket's file as steps of a disk, one after another.
 use Rattle.std.specs.Prelude.{◌≡◌, ℕ, true, List, [], ◌∷◌, ◌++◌, Option, Some, Ok, length, map, flat_map, option_to_list}
-use Rattle.cacache_core.specs.{PathNames.{Names, names_of}, Paths.{bucket_names_of}}
+use Rattle.cacache_core.specs.Paths.{Names, names_of, bucket_names_of}
 use Rattle.cacache_store.specs.declared.store.{step.Step.TheVariants.{Append, ReadAll}, answer.Answer.TheVariants.{Took, Bytes}}
-use Rattle.cacache_disk.specs.{declared.{luck.Luck.TheVariants.{Take, Plain}, node.Node.TheVariants.{File}}, Tree.{Tree, look}, Apply.{apply}, Rooted.{Rooted}}
+use Rattle.cacache_disk.specs.{declared.{luck.Luck.TheVariants.{Take, Plain}, node.Node.TheVariants.{File}}, Tree.{Tree, look, Rooted}, Apply.{apply}}
 use Rattle.cacache_entry.specs.Bucket.{entries_of}
-use Rattle.cacache_value.specs.{Kinds.{is_path_of}, Value.{Value}, Acts.{list_of}, Traces.{Move, tree_after, acts}}
+use Rattle.cacache_value.specs.{Kinds.{is_path_of}, Value.{Value}, Acts.{list_of, Move, tree_after, acts}}
 use Rattle.cacache_system_model.specs.bucket.File.{LineWrite, BucketFile, Event, Answers, Stops, Ends, bytes_to_write, idle, next, file_after, file_of, Happen, whole_entries}
 
 -- the write that an event ends

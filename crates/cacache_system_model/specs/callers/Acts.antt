@@ -1,10 +1,10 @@
 -- What callers do on one machine, act by act. System calls make each store step whole before the next act.
 use Rattle.std.specs.Prelude.{◌≡◌, ◌⊎◌, ◌<◌, ◌+◌, ◌==◌, ℕ, Bool, List, [], ◌∷◌, Option, None, Some, option_map, if◌then◌else◌}
 use Rattle.std_io.specs.declared.io.kind.ErrorKind.{ErrorKind}
-use Rattle.cacache_core.specs.{declared.errors.Fault.{Fault}, PathNames.{Names}}
+use Rattle.cacache_core.specs.{declared.errors.Fault.{Fault}, Paths.{Names}}
 use Rattle.cacache_store.specs.declared.store.step.Step.TheVariants as store
 use Rattle.cacache_store.specs.declared.store.answer.Answer.TheVariants as answers
-use Rattle.cacache_store.specs.{Plain.{PlainStep, PlainAnswer}, Fits.{Fits}}
+use Rattle.cacache_store.specs.Plain.{PlainStep, PlainAnswer, Fits}
 use Rattle.cacache_disk.specs.declared.luck.Luck.{Luck}
 use Rattle.cacache_system.specs.{declared.call.CallResult.TheVariants.{Failed}, AnswersOf.{answer_of}}
 use Rattle.cacache_system_model.specs.{Machine.{Machine}, Laws.{step_on, answer_on, LeavesFresh}, Chains.{StepMade, temps_left, IsMade}}

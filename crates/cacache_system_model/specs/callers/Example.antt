@@ -4,7 +4,7 @@ use Rattle.std.specs.Prelude.{◌≡◌, ◌<◌, ◌^◌, ℕ, List, [], ◌∷
 use Rattle.cacache_core.specs.{declared.integrity.digest.Hash.{Hash}, Integrity.{IsIntegrity}}
 use Rattle.cacache_system.specs.AnswersOf.{answer_of}
 use Rattle.cacache_disk.specs.Tree.{listing}
-use Rattle.cacache_system_model.specs.{Machine.{Machine}, Meeting.{HasRoom}, Listing.{ListsPlainly}, Chains.{StepMade}, callers.{Acts.{begins, steps}, Made.{now_left, CacheOn}, Seen.{SeenState, answer_seen, MakesSeenStep, EachSeen, seen_at}}}
+use Rattle.cacache_system_model.specs.{Machine.{Machine}, Laws.{HasRoom}, Listing.{ListsPlainly}, Chains.{StepMade}, callers.{Acts.{begins, steps}, Made.{now_left, CacheOn}, Seen.{SeenState, answer_seen, MakesSeenStep, EachSeen, seen_at}}}
 use Rattle.cacache_calls.specs.declared.command.Command.TheVariants as commands
 use Rattle.cacache_calls.specs.{declared.{reply.Reply.{Reply, TheVariants.{Done}}, visit.{Visit.{Visit, TheVariants.{RemoveFile, RemoveFolder}}, Task.{Task}}}, State.{Walk, walking}, Table.{after}}
 use Rattle.cacache_history.specs.{Setup.{Setup}, History.{Ends}}

@@ -1,11 +1,11 @@
 -- What a loss of power leaves on one machine, after what callers did there.
 use Rattle.std.specs.{Prelude.{◌≡◌, Bool, true, false, List, [], ◌∷◌, ◌++◌, Some}, List.{AllByRecursion}}
-use Rattle.cacache_core.specs.PathNames.{Names}
+use Rattle.cacache_core.specs.Paths.{Names}
 use Rattle.cacache_disk.specs.Tree.{Tree}
 use Rattle.cacache_value.specs.{Kinds.{PathKind, Temporary, path_kind}, Value.{value_of_tree}}
 use Rattle.cacache_loss.specs.{Fixing.{Fixed, all_fixed}, Loss.{Loss, Lost, lost_at}, LostValues.{HoldsContent}, Moments.{lost_then}}
 use Rattle.cacache_calls.specs.declared.command.Put.{Put}
-use Rattle.cacache_history.specs.{declared.record.Record.{Record}, Setup.{Setup, home}, History.{History}, AddedEntries.{address_of_put}, durable.{FewCalls.{FewCalls}, Outlasting.{DurablePut, Outlives, moment_at}}}
+use Rattle.cacache_history.specs.{declared.record.Record.{Record}, Setup.{Setup, home}, History.{History}, AddedEntries.{address_of_put}, durable.{QuietMoves.{FewCalls}, Outlasting.{DurablePut, Outlives, moment_at}}}
 use Rattle.cacache_system_model.specs.{Machine.{Machine}, Chains.{StepMade}, Fixing.{fixed_after_all, LosesAsTold, LeavesSame}, callers.{Acts.{Act, steps, SystemState, after_acts, EachMay}, Made.{history_of, CacheOn, system_at, MakesHistory}, Storing.{MayStore}, Seen.{EachSeen, seen_at}}}
 
 -- the steps that acts made

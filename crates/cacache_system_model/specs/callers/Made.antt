@@ -1,8 +1,8 @@
 -- What callers do on one machine makes a legal history.
 use Rattle.std.specs.Prelude.{◌≡◌, ◌≤◌, ◌^◌, ℕ, Bool, true, false, List, [], ◌++◌, Option, None, Ok}
-use Rattle.cacache_core.specs.PathNames.{Names}
+use Rattle.cacache_core.specs.Paths.{Names}
 use Rattle.cacache_disk.specs.Tree.{bare}
-use Rattle.cacache_value.specs.{Kinds.{Temporary, path_kind}, OpeningTrees.{with_files, LieApart}}
+use Rattle.cacache_value.specs.{Kinds.{Temporary, path_kind}, Placed.{with_files, LieApart}}
 use Rattle.cacache_system_model.specs.{Machine.{Machine}, Mirrors.{Mirrors}, callers.Acts.{Act, SystemState, after_acts, MayAct, EachMay, AreRecordsOf}}
 use Rattle.cacache_history.specs.{declared.record.Record.{Record}, Setup.{Setup, home}, History.{History, Now, initial, replayed, IsLegal}, Headline.{Headline}}
 

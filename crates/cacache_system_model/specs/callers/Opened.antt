@@ -1,11 +1,11 @@
 -- Open files stay open through the system calls of a step.
 use Rattle.std.specs.Prelude.{◌≡◌, ℕ, false, List, Some, Ok}
-use Rattle.cacache_core.specs.PathNames.{Names, names_of}
+use Rattle.cacache_core.specs.Paths.{Names, names_of}
 use Rattle.cacache_store.specs.declared.store.step.Step.TheVariants as steps
 use Rattle.cacache_disk.specs.{declared.node.Node.TheVariants.{Folder, File}, Tree.{Tree, look, same_path}, LedTo.{writable}}
 use Rattle.cacache_loss.specs.Fixing.{is_at}
 use Rattle.cacache_system.specs.{declared.call.{CallItem.{CallItem}, CallResult.{CallResult}}, Seen.{NumberedStep}, CallsOf.{Runs}, AnswersOf.{Hint, first}}
-use Rattle.cacache_system_model.specs.{Machine.{Machine}, Calls.{OccursSomehow, EachCall}, OneCall.{IsOpenAt}, Listing.{CanList}, Premises.{IsStill, IsOpen}}
+use Rattle.cacache_system_model.specs.{Machine.{Machine}, Calls.{OccursSomehow, EachCall}, StepLaws.{IsOpenAt}, Listing.{CanList}, Premises.{IsStill, IsOpen}}
 
 -- each file that is open at these names stays open there
 abbrev pub KeepsOpen : Names → Machine → Machine → Type 0

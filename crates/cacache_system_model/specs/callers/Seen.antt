@@ -1,6 +1,6 @@
 -- Callers over stores of real folders, as the contracts of these stores see them: with handles that have no bytes.
 use Rattle.std.specs.Prelude.{◌≡◌, ◌≤◌, ◌<◌, ◌+◌, ◌^◌, ◌==◌, ℕ, List, [], ◌∷◌, ◌++◌, Option, None, Some, option_map, if◌then◌else◌}
-use Rattle.cacache_core.specs.PathNames.{names_of}
+use Rattle.cacache_core.specs.Paths.{names_of}
 use Rattle.cacache_store.specs.{declared.store.plain.{PlainFile.{PlainFile}, PlainTemp.{PlainTemp}}, Plain.{PlainStep, PlainAnswer}}
 use Rattle.cacache_store.specs.declared.store.step.Step.TheVariants as store
 use Rattle.cacache_store.specs.declared.store.answer.Answer.TheVariants as answers
@@ -162,7 +162,7 @@ seen_at s m cache = record {
   begun = (now_left s cache.past).begun;
 }
 
--- such acts on one machine make a legal history
+-- acts on one machine make a legal history, if the system calls of each store step follow one another
 abbrev pub SeenMakeHistories : Type 0
 SeenMakeHistories =
     (s : Setup) (m : Machine) (cache : CacheOn s m) (acts : List Act)

@@ -1,11 +1,11 @@
 -- Steps of calls. Most of what their laws ask of the machine's tree follows from the acts before them.
 use Rattle.std.specs.Prelude.{◌≡◌, ◌⊎◌, ℕ, Bool, true, List, Option, None, Some, Ok, IfOk}
 use Rattle.std_io.specs.declared.io.kind.ErrorKind.TheVariants as kind
-use Rattle.cacache_core.specs.PathNames.{Names, names_of}
+use Rattle.cacache_core.specs.Paths.{Names, names_of}
 use Rattle.cacache_store.specs.Plain.{PlainStep}
 use Rattle.cacache_store.specs.declared.store.step.Step.TheVariants as steps
 use Rattle.cacache_system.specs.{declared.call.CallResult.TheVariants.{Failed}, Seen.{NumberedTemp, NumberedStep}, CallsOf.{Runs}, AnswersOf.{Hint, first, answer_of}}
-use Rattle.cacache_system_model.specs.{Machine.{Machine}, Calls.{GoesWell, OccursSomehow, EachCall}, Laws.{LeavesFresh, IsDone}, OneCall.{IsOpenAt}, Moving.{MayReplace}, Writing.{CanCopy}, Listing.{CanList}, Premises.{IsOpen, HasPlainLaw}, Chains.{StepMade}, callers.{Acts.{Act, begins, steps as makes, ends, stops, SystemState, EndsFailed, step_of, answer_in, NeedsFit, MayAct}, Made.{MakeHistories}}}
+use Rattle.cacache_system_model.specs.{Machine.{Machine}, Calls.{GoesWell, OccursSomehow, EachCall}, Laws.{LeavesFresh, IsDone}, StepLaws.{IsOpenAt, MayReplace}, Writing.{CanCopy}, Listing.{CanList}, Premises.{IsOpen, HasPlainLaw}, Chains.{StepMade}, callers.{Acts.{Act, begins, steps as makes, ends, stops, SystemState, EndsFailed, step_of, answer_in, NeedsFit, MayAct}, Made.{MakeHistories}}}
 use Rattle.cacache_calls.specs.{declared.reply.Reply.{Reply}, State.{State}, Table.{wants, after}}
 use Rattle.cacache_value.specs.Kinds.{PathKind, Temporary, Way, path_kind, IsFor}
 use Rattle.cacache_history.specs.{Setup.{Setup, home}, History.{Ends}}
@@ -94,6 +94,6 @@ MayStore s w (makes caller made reply) = MakesStoringStep (home s) w caller made
 MayStore s w (ends caller reply) = MayAct s w (ends caller reply)
 MayStore s w (stops caller) = MayAct s w (stops caller)
 
--- such acts on one machine make a legal history
+-- acts on one machine make a legal history, if each step has what `MayStore` asks
 abbrev pub StoringMakeHistories : Type 0
 StoringMakeHistories = MakeHistories MayStore

@@ -1,8 +1,8 @@
 -- What the calls do to the tree, when memory may be refused.
 use Rattle.std.specs.Prelude.{◌≡◌, ⊤, ℕ, List, Option, None, Some, IsSomeAnd, Result, Ok, Err, MatchResult, IsOkAnd, length}
-use Rattle.cacache_core.specs.{declared.errors.Fault.{Fault, TheVariants.{Unsupported}}, PathNames.{Names}}
+use Rattle.cacache_core.specs.{declared.errors.Fault.{Fault, TheVariants.{Unsupported}}, Paths.{Names}}
 use Rattle.cacache_store.specs.{Plain.{PlainStep, PlainAnswer}, declared.store.answer.Answer.TheVariants.{Failed}}
-use Rattle.cacache_disk.specs.{declared.{luck.Luck.TheVariants.{Plain}, node.Node.{Node, TheVariants.{Folder, File, Link}}, stop.Stop.{Stop}}, Tree.{Tree, look, put, kind_of}, Stops.{Stops}, Rooted.{Rooted}, LedTo.{place, free, linked}, Apply.{apply, fault_told}}
+use Rattle.cacache_disk.specs.{declared.{luck.Luck.TheVariants.{Plain}, node.Node.{Node, TheVariants.{Folder, File, Link}}, stop.Stop.{Stop}}, Tree.{Tree, look, put, kind_of, Rooted}, Plans.{Stops}, LedTo.{place, free, linked}, Apply.{apply, fault_told}}
 use Rattle.cacache_disk.specs.declared.stop.Stop.TheVariants as stop
 use Rattle.cacache_system.specs.declared.call.FileInfo.{FileInfo}
 use Rattle.cacache_system_model.specs.Machine.{link_fault, is_regular}

@@ -1,6 +1,6 @@
 -- The open files of a system in memory, and what becomes of them.
 use Rattle.std.specs.Prelude.{◌≡◌, ⊤, ℕ, ◌+◌, ◌^◌, ◌<◌, List, [], ◌∷◌, ◌++◌, map, drop, length, slice_get, slice_set, Option, None, Some, IsSome, IsSomeAnd, Result, Ok, Err, IsOkAnd, MatchResult}
-use Rattle.cacache_core.specs.{declared.errors.Fault.{Fault, TheVariants.{Device, IsADirectory, Unsupported}}, PathNames.{Names}}
+use Rattle.cacache_core.specs.{declared.errors.Fault.{Fault, TheVariants.{Device, IsADirectory, Unsupported}}, Paths.{Names}}
 use Rattle.cacache_disk.specs.{declared.{node.Node.{Node, TheVariants.{Folder, File, Link}}, stop.Stop.{Stop}}, Tree.{Tree, look, put, cut}, LedTo.{place, replaceable}, Apply.{lengthened}}
 use Rattle.cacache_disk.specs.declared.stop.Stop.TheVariants as stop
 use Rattle.cacache_system_model.specs.Machine as model

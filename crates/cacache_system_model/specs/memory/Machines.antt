@@ -3,7 +3,7 @@ use Rattle.std.specs.Prelude.{◌≡◌, ◌⊎◌, ℕ, List, [], None, Some, I
 use Rattle.std_io.specs.declared.io.kind.ErrorKind.{ErrorKind}
 use Rattle.std_io.specs.declared.io.kind.ErrorKind.TheVariants as kind
 use Rattle.cacache_disk.specs.Tree.{Tree, listing}
-use Rattle.cacache_system.specs.{declared.call.{SystemCall.{SystemCall}, CallResult.{CallResult}, CallItem.{CallItem}}, CallLog.{MakesCall}}
+use Rattle.cacache_system.specs.{declared.call.{SystemCall.{SystemCall}, CallResult.{CallResult}, CallItem.{CallItem}}, Seen.{MakesCall}}
 use Rattle.cacache_system.specs.declared.call.SystemCall.TheVariants as asks
 use Rattle.cacache_system.specs.declared.call.CallResult.TheVariants as says
 use Rattle.cacache_system_model.specs.{Machine.{Machine, node_of}, Calls.{GoesWell, OccursSomehow}, declared.memory.{files.OpenFile.{OpenFile}, system.MemorySystem.{MemorySystem}}, memory.{Files.{open_of, IsNoFile}, Noted.{items_of}}}

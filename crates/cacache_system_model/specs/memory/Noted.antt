@@ -1,6 +1,6 @@
 -- What a log of calls says about a note.
 use Rattle.std.specs.Prelude.{List, [], Option, None, Some}
-use Rattle.cacache_system.specs.{declared.call.{SystemCall.{SystemCall}, CallResult.{CallResult}, CallItem.{CallItem}}, CallLog.{item}}
+use Rattle.cacache_system.specs.{declared.call.{SystemCall.{SystemCall}, CallResult.{CallResult}, CallItem.{CallItem}}, Seen.{item}}
 use Rattle.cacache_system.specs.declared.call.SystemCall.TheVariants as asks
 use Rattle.cacache_system.specs.declared.call.CallResult.TheVariants as says
 use Rattle.cacache_system_model.specs.declared.memory.log.{Asked.{Asked}, Said.{Said}, Note.{Note}, LoggedCalls.{LoggedCalls}, Log.{Log}}

@@ -2,7 +2,7 @@
 ghost use Rattle.std.specs.{Prelude.{◌≡◌, Some, length}, Io.{ReadsAtMost, WritesAtMost, StartsWith}};
 ghost use Rattle.cacache_system.specs.declared.call.SystemCall.TheVariants as asks;
 ghost use Rattle.cacache_system.specs.declared.call.CallResult.TheVariants as says;
-ghost use Rattle.cacache_system.specs.CallLog.{said, said_bytes, said_rest};
+ghost use Rattle.cacache_system.specs.Seen.{said, said_bytes, said_rest};
 
 use crate::memory::log::{Asked, Said};
 use crate::memory::state::MemoryFile;
@@ -277,6 +277,13 @@ impl System for MemorySystem {
         ensures same { self.new ≡ self.old }
     {
         Err(io::Error::from(ErrorKind::Unsupported))
+    }
+
+    /// Nobody else is in this system, so any number will do.
+    fn random(&mut self) -> io::Result<u64>
+        ensures same { self.new ≡ self.old }
+    {
+        Ok(0)
     }
 
     /// Does nothing: a system in memory holds nothing open.

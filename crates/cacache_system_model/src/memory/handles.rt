@@ -26,7 +26,7 @@ impl Memory {
     }
 
     /// Goes on in an open file by so many bytes.
-    #[tactic(auto, using(crate::proofs::memory::Reading::gone_on))]
+    #[tactic(auto, using(crate::proofs::memory::Openings::gone_on))]
     fn go_on(&mut self, number: u64, count: usize)
         requires { IsSomeAnd (slice_get self.old.files.items number) (λ file.
             file.read + count < 2 ^ 64) }

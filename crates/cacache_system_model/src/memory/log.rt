@@ -97,7 +97,7 @@ pub struct Log {
 impl Log {
     ghost use Rattle.std.specs.Prelude.{IsErr};
     ghost use Rattle.std_io.specs.IoError.{error_kind};
-    ghost use Rattle.cacache_system.specs.CallLog.{item, said};
+    ghost use Rattle.cacache_system.specs.Seen.{item, said};
     ghost use Rattle.cacache_system.specs.declared.call.CallResult.TheVariants as says;
     ghost use Rattle.cacache_system_model.specs.memory.Noted.{items_of, noted, asked, told};
     ghost use Rattle.cacache_system_model.specs.memory.Stopping.{kind_of, outcome};

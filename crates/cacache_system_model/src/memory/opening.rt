@@ -1,7 +1,7 @@
 //! Files of a system in memory that are made, opened and copied.
 ghost use Rattle.std.specs.Prelude.{[], ◌≡◌, Ok, IfOk, IfErr, if◌then◌else◌};
 ghost use Rattle.cacache_core.specs.declared.errors.Fault.TheVariants.{InvalidInput};
-ghost use Rattle.cacache_disk.specs.{declared.node.Node.TheVariants.{File}, Tree.{put, same_path}, LedTo.{file_at, found, free, leads, writable}, Stops.{Stops}};
+ghost use Rattle.cacache_disk.specs.{declared.node.Node.TheVariants.{File}, Tree.{put, same_path}, LedTo.{file_at, found, free, leads, writable}, Plans.{Stops}};
 ghost use Rattle.cacache_system_model.specs.{Calls.{brought}, Machine.{with_empty}, memory.{Changes.{CanPut}, Files.{Copied, Opens, OpensIfRoom}}};
 
 use crate::memory::files::{OpenFile, Place, longer};
@@ -35,7 +35,7 @@ impl Memory {
     }
 
     /// Opens what a path leads to.
-    #[tactic(auto, using(crate::proofs::memory::Openings::opens_bad, crate::proofs::memory::Looks::found_missing))]
+    #[tactic(auto, using(crate::proofs::memory::Openings::opens_bad, crate::proofs::memory::Places::found_missing))]
     pub(crate) fn open_found(&mut self, path: &str) -> Result<u64, Stop>
         ensures { Opens (found self.old.disk path.now) (λ names. self.old.disk) self.old result
             self.new }
@@ -48,7 +48,7 @@ impl Memory {
     }
 
     /// Makes an empty file where nothing is, and opens it.
-    #[tactic(auto, using(crate::proofs::memory::Openings::opens_bad, crate::proofs::memory::Moves::free_bad, crate::proofs::memory::Steps::makes_no_second))]
+    #[tactic(auto, using(crate::proofs::memory::Openings::opens_bad, crate::proofs::memory::Moves::free_bad, crate::proofs::memory::Occurring::makes_no_second))]
     pub(crate) fn create(&mut self, path: &str) -> Result<u64, Stop>
         ensures { Opens (free self.old.disk path.now) (λ names. put self.old.disk names (File []))
             self.old result self.new }

@@ -1,7 +1,7 @@
 //! What the calls do to the tree.
 ghost use Rattle.std.specs.Prelude.{◌≡◌, [], None, Ok, IfOk, IfErr, IsOk};
 ghost use Rattle.cacache_store.specs.declared.store.step.Step.TheVariants as steps;
-ghost use Rattle.cacache_disk.specs.{declared.node.Node.TheVariants.{Folder, File, Link}, Tree.{look, put, cut}, LedTo.{way_fault, place, found, standing, free, removable, emptied, linked}, Stops.{Stops, Blocks}};
+ghost use Rattle.cacache_disk.specs.{declared.node.Node.TheVariants.{Folder, File, Link}, Tree.{look, put, cut}, LedTo.{way_fault, place, found, standing, free, removable, emptied, linked}, Plans.{Stops, Blocks}};
 ghost use Rattle.cacache_system_model.specs.memory.Changes.{CanPut, Does, Changed, Linked, Movable, Shown, Unlinks, info_of};
 
 use cacache_core::bytes::Bytes;
@@ -81,7 +81,7 @@ pub(crate) fn place(disk: &Disk, path: &str) -> Result<Path, Stop>
 }
 
 /// What a path leads to.
-#[tactic(auto, using(crate::proofs::memory::Looks::found_there, crate::proofs::memory::Looks::found_missing, crate::proofs::memory::Looks::found_bad))]
+#[tactic(auto, using(crate::proofs::memory::Places::found_there, crate::proofs::memory::Places::found_missing, crate::proofs::memory::Places::found_bad))]
 pub(crate) fn shown(disk: &Disk, path: &str) -> Result<FileInfo, Stop>
     ensures { Shown (found disk.now path.now) disk.now result }
 {
@@ -93,7 +93,7 @@ pub(crate) fn shown(disk: &Disk, path: &str) -> Result<FileInfo, Stop>
 }
 
 /// What is at a path.
-#[tactic(auto, using(crate::proofs::memory::Looks::standing_there, crate::proofs::memory::Looks::standing_missing, crate::proofs::memory::Looks::standing_bad))]
+#[tactic(auto, using(crate::proofs::memory::Places::standing_there, crate::proofs::memory::Places::standing_missing, crate::proofs::memory::Places::standing_bad))]
 pub(crate) fn shown_link(disk: &Disk, path: &str) -> Result<FileInfo, Stop>
     ensures { Shown (standing disk.now path.now) disk.now result }
 {
@@ -115,7 +115,7 @@ pub(crate) fn own(disk: &Disk, path: &str) -> Result<(), Stop>
 }
 
 /// Makes a folder.
-#[tactic(auto, using(crate::proofs::memory::Steps::makes_folder, crate::proofs::memory::Steps::makes_nothing, crate::proofs::memory::Steps::makes_no_second))]
+#[tactic(auto, using(crate::proofs::memory::Occurring::makes_folder, crate::proofs::memory::Occurring::makes_nothing, crate::proofs::memory::Occurring::makes_no_second))]
 pub(crate) fn make_folder(disk: &mut Disk, alloc: Global, path: &str) -> Result<(), Stop>
     ensures { Changed (free disk.old path.now) (λ names. put disk.old names Folder) result disk.old
         disk.new }
@@ -128,7 +128,7 @@ pub(crate) fn make_folder(disk: &mut Disk, alloc: Global, path: &str) -> Result<
 }
 
 /// Removes a file or a link.
-#[tactic(auto, using(crate::proofs::memory::Steps::removes_file))]
+#[tactic(auto, using(crate::proofs::memory::Occurring::removes_file))]
 pub(crate) fn remove_file(disk: &mut Disk, alloc: Global, path: &str) -> Result<(), Stop>
     ensures { Changed (removable disk.old path.now) (cut disk.old) result disk.old disk.new }
 {
@@ -136,7 +136,7 @@ pub(crate) fn remove_file(disk: &mut Disk, alloc: Global, path: &str) -> Result<
 }
 
 /// Removes an empty folder.
-#[tactic(auto, using(crate::proofs::memory::Steps::removes_folder))]
+#[tactic(auto, using(crate::proofs::memory::Occurring::removes_folder))]
 pub(crate) fn remove_folder(disk: &mut Disk, alloc: Global, path: &str) -> Result<(), Stop>
     ensures { Changed (emptied disk.old path.now) (cut disk.old) result disk.old disk.new }
 {
@@ -144,7 +144,7 @@ pub(crate) fn remove_folder(disk: &mut Disk, alloc: Global, path: &str) -> Resul
 }
 
 /// Makes a symbolic link.
-#[tactic(auto, using(crate::proofs::memory::Steps::makes_link))]
+#[tactic(auto, using(crate::proofs::memory::Occurring::makes_link))]
 pub(crate) fn symlink(disk: &mut Disk, alloc: Global, target: &str, path: &str) -> Result<(), Stop>
     ensures { Changed (free disk.old path.now) (λ names. put disk.old names (Link target.now))
         result disk.old disk.new }
@@ -168,7 +168,7 @@ fn linkable(disk: &Disk, path: &str) -> Result<(), Stop>
 }
 
 /// Whether nothing is at a path yet, and its folder is there.
-#[tactic(auto, using(crate::proofs::memory::Moves::free_bad, crate::proofs::memory::Steps::free_is, crate::proofs::memory::Steps::makes_no_second))]
+#[tactic(auto, using(crate::proofs::memory::Moves::free_bad, crate::proofs::memory::Occurring::free_is, crate::proofs::memory::Occurring::makes_no_second))]
 fn free(disk: &Disk, path: &str) -> Result<(), Stop>
     ensures ok { IfOk result (λ _. IsOk (free disk.now path.now)) }
     ensures err { IfErr result (λ stop. Stops stop (free disk.now path.now)) }

@@ -1,4 +1,4 @@
-use Rattle.cacache_system_model.proofs.bucket.{Moments.{entries_are_whole, read_begins, reads_are_moments, beginnings_are_moments, later_reads_have_more, answered_are_read}, Started.{completed_were_started}}
+use Rattle.cacache_system_model.proofs.bucket.{Moments.{entries_are_whole, read_begins, reads_are_moments, beginnings_are_moments, later_reads_have_more, answered_are_read}, Places.{completed_were_started}}
 use Rattle.cacache_system_model.proofs.bucket.bucket_event_laws.Goals as goal
 
 pub returns : goal.returns

@@ -1,4 +1,4 @@
-use Rattle.cacache_system_model.proofs.bucket.{Writes.{writes_are_appends, whole_are_of_steps}, DiskSteps.{steps_leave_file, reads_are_of_disk}}
+use Rattle.cacache_system_model.proofs.bucket.Writes.{writes_are_appends, whole_are_of_steps, steps_leave_file, reads_are_of_disk}
 use Rattle.cacache_system_model.proofs.bucket.bucket_step_laws.Goals as goal
 
 pub returns : goal.returns

@@ -1,6 +1,6 @@
 use Rattle.std.{proofs.Math.Logic.{∥∥₁_map}, specs.Prelude.{map}}
 use Rattle.cacache_store.specs.declared.store.log.LogItem.TheVariants.{Made}
-use Rattle.cacache_folder.proofs.CallsByLog.{in_parts}
+use Rattle.cacache_folder.proofs.StepsMade.{in_parts}
 use Rattle.cacache_system_model.proofs.PutCalls.{last_calls}
 use Rattle.cacache_system_model.proofs.laws.system_call_laws.Goals as goal
 

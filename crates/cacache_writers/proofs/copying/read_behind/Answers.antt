@@ -1,7 +1,7 @@
 use Rattle.std.proofs.{Common.{◌+◌, ◌<◌, ℕ, List, [], ◌++◌, Option, Result, Ok, Err, length, take, refl, sym, ap, ◌∙◌, arith}, Math.Seq.{take-append-add}, lemmas.List.{take-append-le}}
 use Rattle.std.specs.Io.{ReadsAtMost, KnownBytes.{ReadConsumes}}
-use Rattle.cacache_store.specs.Failures as io
-use Rattle.cacache_writers.specs.Copying.{ReadsBehind}
+use Rattle.cacache_store.specs.Outside as io
+use Rattle.cacache_writers.specs.Writing.{ReadsBehind}
 use Rattle.cacache_writers.proofs.copying.read_behind.Goals as goal
 
 -- what a read leaves in the middle of a buffer comes after its front

@@ -1,4 +1,4 @@
-use Rattle.std.{proofs.Common.{◌≡◌, length}, specs.{Fn.{FnReturnsAt}, List.{FoldsTo}}}
+use Rattle.std.{proofs.Common.{length}, specs.{Fn.{FnReturnsAt}, List.{FoldsTo}}}
 use Rattle.cacache_writers.specs.{declared.worker.Turned.{Turned}, Turning.{IsBoth, TurnEach}}
 use Rattle.cacache_writers.proofs.workers.turn_each.Given as goal
 

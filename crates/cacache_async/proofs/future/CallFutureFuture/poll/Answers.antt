@@ -1,5 +1,5 @@
 use Rattle.std.proofs.Common.{rules, ◌≡◌, Some, subst, sym}
-use Rattle.cacache_async.specs.Waiting.{MayAnswer}
+use Rattle.cacache_async.specs.Futures.{MayAnswer}
 use Rattle.cacache_async.proofs.future.CallFutureFuture.poll.Goals as goal
 
 pub returns-in-Some-clause-value : goal.returns-in-Some-clause-value

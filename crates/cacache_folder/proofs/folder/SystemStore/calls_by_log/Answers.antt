@@ -1,5 +1,5 @@
 use Rattle.std.proofs.Math.Logic.{∥∥₁_map}
-use Rattle.cacache_folder.proofs.CallsByLog.{in_parts}
+use Rattle.cacache_folder.proofs.StepsMade.{in_parts}
 use Rattle.cacache_folder.proofs.folder.SystemStore.calls_by_log.Goals as goal
 
 pub returns : goal.returns

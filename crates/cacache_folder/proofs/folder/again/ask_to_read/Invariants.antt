@@ -1,6 +1,6 @@
 use Rattle.std.specs.Prelude.{◌≡◌, length}
 use Rattle.cacache_system.specs.declared.call.SystemCall.TheVariants.{Read}
-use Rattle.cacache_folder.specs.Interruptions.{Waits}
+use Rattle.cacache_folder.specs.Goings.{Waits}
 use Rattle.cacache_folder.proofs.folder.again.ask_to_read.Given as goal
 
 -- all reads so far were interrupted

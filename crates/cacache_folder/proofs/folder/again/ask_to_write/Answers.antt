@@ -1,4 +1,4 @@
-use Rattle.std.proofs.Common.{length, ap, sym, ◌∙◌}
+use Rattle.std.proofs.Common.{ap, sym, ◌∙◌}
 use Rattle.std_io.specs.IoError.{error_kind}
 use Rattle.cacache_system.specs.declared.call.SystemCall.TheVariants as asks
 use Rattle.cacache_folder.proofs.CallRuns.{waits_more, insists_last}

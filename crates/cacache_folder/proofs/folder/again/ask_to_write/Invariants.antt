@@ -1,6 +1,6 @@
 use Rattle.std.specs.Prelude.{◌≡◌}
 use Rattle.cacache_system.specs.declared.call.SystemCall.TheVariants.{Write}
-use Rattle.cacache_folder.specs.Interruptions.{Waits}
+use Rattle.cacache_folder.specs.Goings.{Waits}
 use Rattle.cacache_folder.proofs.folder.again.ask_to_write.Given as goal
 
 -- all writes so far were interrupted

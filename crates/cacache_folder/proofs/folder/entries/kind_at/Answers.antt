@@ -1,4 +1,4 @@
-use Rattle.std.{proofs.Common.{◌≡◌, true, false, if◌then◌else◌, refl, sym, ap, ◌∙◌}, specs.Prelude.{Some}}
+use Rattle.std.{proofs.Common.{◌≡◌, true, false, if◌then◌else◌, sym, ap, ◌∙◌}, specs.Prelude.{Some}}
 use Rattle.std_io.specs.IoError.{error_kind}
 use Rattle.cacache_system.specs.declared.call.SystemCall.TheVariants as asks
 use Rattle.cacache_system.specs.declared.call.CallResult.TheVariants as says

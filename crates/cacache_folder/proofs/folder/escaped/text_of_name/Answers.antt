@@ -1,5 +1,5 @@
-use Rattle.std.{proofs.Common.{◌≡◌, arith, sym, ap, ◌∙◌}, specs.{Bool.{nat_eq}, List.{starts_with}}}
-use Rattle.cacache_folder.proofs.{Escapes.{stands, told_as}, Entries.{odd_mark, odd_bytes, even_bytes}}
+use Rattle.std.{proofs.Common.{arith, sym, ap, ◌∙◌}, specs.{Bool.{nat_eq}, List.{starts_with}}}
+use Rattle.cacache_folder.proofs.{FolderNames.{stands, told_as}, Entries.{odd_mark, odd_bytes, even_bytes}}
 use Rattle.cacache_folder.proofs.folder.escaped.text_of_name.Goals as goal
 
 pub returns-then-starts_with-clause-raw : goal.returns-then-starts_with-clause-raw

@@ -2,7 +2,7 @@ use Rattle.std.proofs.Common.{◌≡◌, true, false, refl, sym, ap, ◌∙◌}
 use Rattle.std_io.specs.IoError.{error_kind}
 use Rattle.cacache_system.specs.declared.call.SystemCall.TheVariants as asks
 use Rattle.cacache_system.specs.declared.call.CallResult.TheVariants as says
-use Rattle.cacache_system.specs.{CallLog.{said}, AnswersOf.{misses, failed_with}}
+use Rattle.cacache_system.specs.AnswersOf.{misses, failed_with}
 use Rattle.cacache_system.specs.CallsOf as calls
 use Rattle.cacache_store.specs.declared.store.step.Step.TheVariants as steps
 use Rattle.cacache_store.specs.declared.store.answer.Answer.TheVariants as answers

@@ -1,10 +1,9 @@
-use Rattle.std.{proofs.Common.{◌≡◌, true, false, List, refl, sym, ap, subst, ◌∙◌}, specs.Prelude.{Some}}
+use Rattle.std.{proofs.Common.{◌≡◌, true, sym, ap, subst, ◌∙◌}, specs.Prelude.{Some}}
 use Rattle.std_io.specs.IoError.{error_kind}
 use Rattle.cacache_system.specs.declared.call.SystemCall.TheVariants as asks
 use Rattle.cacache_system.specs.declared.call.CallResult.TheVariants as says
-use Rattle.cacache_system.specs.CallLog.{said}
 use Rattle.cacache_system.specs.CallsOf as calls
-use Rattle.cacache_folder.{proofs.Copying.{goes_call, taken_next}, specs.Goings.{GoesOrEnds}}
+use Rattle.cacache_folder.{proofs.Making.{goes_call, taken_next}, specs.Goings.{GoesOrEnds}}
 use Rattle.cacache_folder.proofs.folder.fresh.+make_fresh.Goals as goal
 
 pub returns-then-already_exists : goal.returns-then-already_exists

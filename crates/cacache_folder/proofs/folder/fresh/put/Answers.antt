@@ -1,10 +1,9 @@
-use Rattle.std.{proofs.Common.{◌≡◌, true, false, List, refl, sym, ap, subst, ◌∙◌}, specs.Prelude.{Some}}
+use Rattle.std.proofs.Common.{refl}
 use Rattle.std_io.specs.IoError.{error_kind}
 use Rattle.cacache_system.specs.declared.call.SystemCall.TheVariants as asks
 use Rattle.cacache_system.specs.declared.call.CallResult.TheVariants as says
-use Rattle.cacache_system.specs.CallLog.{said}
 use Rattle.cacache_system.specs.CallsOf as calls
-use Rattle.cacache_folder.proofs.{CallRuns.{run_call}, Copying.{scrapped}}
+use Rattle.cacache_folder.proofs.{CallRuns.{run_call}, Making.{scrapped}}
 use Rattle.cacache_folder.proofs.folder.fresh.put.Goals as goal
 
 pub returns-in-Err : goal.returns-in-Err

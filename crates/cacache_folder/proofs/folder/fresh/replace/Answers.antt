@@ -1,8 +1,6 @@
-use Rattle.std.{proofs.{Common.{◌≡◌, true, false, List, refl, sym, ap, subst, ◌∙◌}, lemmas.Result.{err_from_is_err_and}}, specs.Prelude.{Some}}
-use Rattle.std_io.specs.IoError.{error_kind}
-use Rattle.cacache_system.specs.declared.call.SystemCall.TheVariants as asks
+use Rattle.std.proofs.{Common.{List, subst}, lemmas.Result.{err_from_is_err_and}}
 use Rattle.cacache_system.specs.declared.call.CallResult.TheVariants as says
-use Rattle.cacache_system.specs.CallLog.{said}
+use Rattle.cacache_system.specs.Seen.{said}
 use Rattle.cacache_system.specs.CallsOf as calls
 use Rattle.cacache_folder.proofs.CallRuns.{calls_run}
 use Rattle.cacache_folder.proofs.folder.fresh.replace.Goals as goal

@@ -1,5 +1,5 @@
 use Rattle.std.proofs.Common.{◌≡◌, ◌∙◌, rules, length}
-use Rattle.cacache_system.specs.{CallsOf.{next_name}, ListedNames.{names_in}}
+use Rattle.cacache_system.specs.{CallsOf.{next_name}, Seen.{names_in}}
 use Rattle.cacache_folder.proofs.Entries.{lists_more, lists_fails, lists_all}
 use Rattle.cacache_folder.proofs.folder.listing.add_all.Goals as goal
 

@@ -1,6 +1,6 @@
-use Rattle.std.specs.Prelude.{◌≡◌, ℕ, List, length}
-use Rattle.cacache_store.specs.Fits.{AreProperNames}
-use Rattle.cacache_system.specs.{ListedNames.{names_in}, CallsOf.{Reader, next_name}}
+use Rattle.std.specs.Prelude.{◌≡◌, length}
+use Rattle.cacache_store.specs.Plain.{AreProperNames}
+use Rattle.cacache_system.specs.{Seen.{names_in}, CallsOf.{Reader, next_name}}
 use Rattle.cacache_folder.specs.Listings.{LeadsTo}
 use Rattle.cacache_folder.proofs.folder.listing.add_all.Given as goal
 

@@ -1,7 +1,7 @@
-use Rattle.std.{proofs.Common.{◌≡◌, ◌≢◌, ◌∙◌, take, length, arith, length-take-le, refl, sym, ap, subst}, specs.Prelude.{Err}}
-use Rattle.std_io.specs.{declared.io.kind.ErrorKind.{ErrorKind}, IoError.{error_kind}}
+use Rattle.std.{proofs.Common.{◌∙◌, take, length, refl, sym, subst}, specs.Prelude.{Err}}
+use Rattle.std_io.specs.declared.io.kind.ErrorKind.{ErrorKind}
 use Rattle.cacache_system.specs.declared.call.CallResult.TheVariants as says
-use Rattle.cacache_folder.{specs.{Interruptions.{Insists}, Listings.{ReadsNames}}, proofs.ListedFolders.{reads_none, reads_some, reads_stops, reads_fails}}
+use Rattle.cacache_folder.{specs.{Goings.{Insists}, Listings.{ReadsNames}}, proofs.ListedFolders.{reads_none, reads_some, reads_stops, reads_fails}}
 use Rattle.cacache_system.specs.declared.call.SystemCall.TheVariants.{ReadNames}
 use Rattle.cacache_folder.proofs.folder.listing.add_some.Goals as goal
 

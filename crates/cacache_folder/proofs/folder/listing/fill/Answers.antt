@@ -1,4 +1,4 @@
-use Rattle.std.proofs.Common.{◌≡◌, ◌∙◌, ◌-◌, ◌^◌, refl}
+use Rattle.std.proofs.Common.{◌∙◌, ◌-◌, ◌^◌, refl}
 use Rattle.cacache_system.specs.CallsOf.{more_names}
 use Rattle.cacache_folder.{specs.Listings.{reader_of}, proofs.ListedFolders.{fills_more, fills_last, fills_fails, fills_over}}
 use Rattle.cacache_folder.proofs.folder.listing.fill.Goals as goal

@@ -1,5 +1,5 @@
-use Rattle.std.specs.Prelude.{◌≡◌, ◌^◌, ◌-◌, ℕ, List, length}
-use Rattle.cacache_store.specs.Fits.{AreProperNames}
+use Rattle.std.specs.Prelude.{◌≡◌, ◌^◌, ◌-◌, length}
+use Rattle.cacache_store.specs.Plain.{AreProperNames}
 use Rattle.cacache_system.specs.CallsOf.{more_names}
 use Rattle.cacache_folder.specs.Listings.{LeadsTo, reader_of}
 use Rattle.cacache_folder.proofs.folder.listing.fill.Given as goal

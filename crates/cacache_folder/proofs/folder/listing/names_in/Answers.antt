@@ -1,4 +1,4 @@
-use Rattle.std.proofs.Common.{◌≡◌, ◌∙◌, length}
+use Rattle.std.proofs.Common.{◌∙◌, length}
 use Rattle.cacache_folder.proofs.ListedFolders.{not_empty, lists_folder, lists_not}
 use Rattle.cacache_folder.proofs.folder.listing.names_in.Goals as goal
 

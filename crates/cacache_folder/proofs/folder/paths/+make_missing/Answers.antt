@@ -2,7 +2,7 @@ use Rattle.std.{proofs.Common.{◌≡◌, true, false, ◌∷◌, sym, ap, ◌�
 use Rattle.std_io.specs.IoError.{error_kind}
 use Rattle.cacache_system.specs.declared.call.CallResult.TheVariants as says
 use Rattle.cacache_system.specs.CallsOf.{over, making, below, is_absent}
-use Rattle.cacache_folder.{specs.Goings.{made, onward}, proofs.{CallRuns.{calls_as, calls_on}, MakingFolders.{made_again, made_climbs, made_fails}}}
+use Rattle.cacache_folder.{specs.Goings.{made, onward}, proofs.{CallRuns.{calls_as, calls_on}, Making.{made_again, made_climbs, made_fails}}}
 use Rattle.cacache_folder.proofs.folder.paths.+make_missing.Goals as goal
 
 pub returns-in-None : goal.returns-in-None

@@ -1,5 +1,5 @@
-use Rattle.std.{proofs.{Common.{length, arith, rules, refl}, lemmas.Str.Pattern.{rfind_char}}, specs.Prelude.{Some, None}}
-use Rattle.cacache_folder.proofs.Slashes.{found_slash, no_slash}
+use Rattle.std.{proofs.{Common.{length, arith, rules}, lemmas.Str.Pattern.{rfind_char}}, specs.Prelude.{Some, None}}
+use Rattle.cacache_folder.proofs.FolderNames.{found_slash, no_slash}
 use Rattle.cacache_folder.proofs.folder.paths.above.Goals as goal
 
 pub returns-in-Some-clause-value : goal.returns-in-Some-clause-value

@@ -3,7 +3,7 @@ use Rattle.std_io.specs.IoError.{error_kind}
 use Rattle.cacache_system.specs.declared.call.SystemCall.TheVariants as asks
 use Rattle.cacache_system.specs.declared.call.CallResult.TheVariants as says
 use Rattle.cacache_system.specs.CallsOf.{over, making, standing, is_absent}
-use Rattle.cacache_folder.{specs.Goings.{onward}, proofs.{CallRuns.{calls_on, calls_one}, MakingFolders.{standing_makes}}}
+use Rattle.cacache_folder.{specs.Goings.{onward}, proofs.{CallRuns.{calls_on, calls_one}, Making.{standing_makes}}}
 use Rattle.cacache_folder.proofs.folder.paths.ask_first.Goals as goal
 
 pub returns-then-is_absent : goal.returns-then-is_absent

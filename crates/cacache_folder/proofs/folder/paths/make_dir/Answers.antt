@@ -3,7 +3,7 @@ use Rattle.std_io.specs.IoError.{error_kind}
 use Rattle.cacache_system.specs.declared.call.SystemCall.TheVariants as asks
 use Rattle.cacache_system.specs.declared.call.CallResult.TheVariants as says
 use Rattle.cacache_system.specs.CallsOf.{making, confirming, below, is_absent}
-use Rattle.cacache_folder.{specs.Goings.{made, onward}, proofs.{CallRuns.{calls_as, calls_on, calls_one}, MakingFolders.{making_confirms, sure_made}}}
+use Rattle.cacache_folder.{specs.Goings.{made, onward}, proofs.{CallRuns.{calls_as, calls_on, calls_one}, Making.{making_confirms, sure_made}}}
 use Rattle.cacache_folder.proofs.folder.paths.make_dir.Goals as goal
 
 pub returns-else-is_absent : goal.returns-else-is_absent

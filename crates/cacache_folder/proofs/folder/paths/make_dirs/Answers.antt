@@ -1,6 +1,6 @@
 use Rattle.std.proofs.Common.{[], false}
 use Rattle.cacache_system.specs.CallsOf.{making, standing}
-use Rattle.cacache_folder.proofs.MakingFolders.{dirs_run, guessed, not_guessed}
+use Rattle.cacache_folder.proofs.Making.{dirs_run, guessed, not_guessed}
 use Rattle.cacache_folder.proofs.folder.paths.make_dirs.Goals as goal
 
 pub returns-then-is_guessed : goal.returns-then-is_guessed

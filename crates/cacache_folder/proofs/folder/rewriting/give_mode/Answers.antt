@@ -1,8 +1,7 @@
-use Rattle.std.proofs.{Common.{◌≡◌, true, false, refl, sym, ap, subst, ◌∙◌}, lemmas.Result.{err_from_is_err_and}}
-use Rattle.std_io.specs.IoError.{error_kind}
+use Rattle.std.proofs.lemmas.Result.{err_from_is_err_and}
 use Rattle.cacache_system.specs.declared.call.SystemCall.TheVariants as asks
 use Rattle.cacache_system.specs.CallsOf as calls
-use Rattle.cacache_folder.{specs.Moves.{GoesBefore}, proofs.Moving.{prepares, prepares_not}}
+use Rattle.cacache_folder.proofs.Making.{prepares, prepares_not}
 use Rattle.cacache_folder.proofs.folder.rewriting.give_mode.Goals as goal
 
 pub returns : goal.returns

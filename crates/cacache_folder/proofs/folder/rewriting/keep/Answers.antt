@@ -1,8 +1,5 @@
-use Rattle.std.proofs.Common.{◌≡◌, true, false, refl, sym, ap, subst, ◌∙◌}
-use Rattle.std_io.specs.IoError.{error_kind}
-use Rattle.cacache_system.specs.declared.call.SystemCall.TheVariants as asks
 use Rattle.cacache_system.specs.CallsOf as calls
-use Rattle.cacache_folder.{specs.Moves.{GoesBefore}, proofs.Moving.{keeps, keeps_none, keeps_not}}
+use Rattle.cacache_folder.proofs.Making.{keeps}
 use Rattle.cacache_folder.proofs.folder.rewriting.keep.Goals as goal
 
 pub returns-in-Ok : goal.returns-in-Ok

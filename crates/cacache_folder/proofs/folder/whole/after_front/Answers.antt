@@ -1,10 +1,10 @@
-use Rattle.std.proofs.Common.{◌≡◌, ap, subst, sym}
+use Rattle.std.proofs.Common.{◌≡◌, ap}
 use Rattle.std_io.specs.IoError.{error_kind}
 use Rattle.cacache_system.specs.declared.call.CallResult.TheVariants as says
 use Rattle.std_io.specs.declared.io.kind.ErrorKind.TheVariants as kinds
-use Rattle.cacache_system.specs.CallLog.{said}
+use Rattle.cacache_system.specs.Seen.{said}
 use Rattle.cacache_system.specs.CallsOf as calls
-use Rattle.cacache_folder.proofs.{CallRuns.{run_took, run_as}, Reading.{took_refused}, Failing.{failed_so}}
+use Rattle.cacache_folder.proofs.{CallRuns.{run_took, run_as}, Reading.{took_refused}, Answering.{failed_so}}
 use Rattle.cacache_folder.proofs.folder.whole.after_front.Goals as goal
 
 pub returns-in_err-bytes : goal.returns-in_err-bytes

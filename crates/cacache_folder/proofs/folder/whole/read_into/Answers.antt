@@ -1,8 +1,7 @@
-use Rattle.std.{proofs.Common.{◌≡◌, ◌≤◌, ℕ, true, false, [], ◌∷◌, take, length, min, rules, arith, refl, sym, ap, subst, ◌∙◌}, specs.Arc.{arc_value}}
+use Rattle.std.proofs.Common.{false, take, length, arith, ap}
 use Rattle.std_io.specs.IoError.{error_kind}
 use Rattle.cacache_system.specs.declared.call.SystemCall.TheVariants as asks
 use Rattle.cacache_system.specs.declared.call.CallResult.TheVariants as says
-use Rattle.cacache_system.specs.CallLog.{said}
 use Rattle.cacache_system.specs.CallsOf as calls
 use Rattle.cacache_folder.proofs.{CallRuns.{run_as}, Reading.{took_read, took_insists, took_refused, taken_left}}
 use Rattle.cacache_folder.proofs.folder.whole.read_into.Goals as goal

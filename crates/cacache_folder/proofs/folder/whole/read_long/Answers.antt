@@ -1,8 +1,8 @@
-use Rattle.std.proofs.Common.{◌≡◌, refl}
+use Rattle.std.proofs.Common.{refl}
 use Rattle.std_io.specs.IoError.{error_kind}
 use Rattle.cacache_system.specs.declared.call.SystemCall.TheVariants as asks
 use Rattle.cacache_system.specs.declared.call.CallResult.TheVariants as says
-use Rattle.cacache_system.specs.CallLog.{said}
+use Rattle.cacache_system.specs.Seen.{said}
 use Rattle.cacache_system.specs.CallsOf as calls
 use Rattle.cacache_folder.proofs.CallRuns.{run_call, run_one}
 use Rattle.cacache_folder.proofs.folder.whole.read_long.Goals as goal

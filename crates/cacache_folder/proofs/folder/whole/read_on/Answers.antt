@@ -1,6 +1,5 @@
-use Rattle.std.proofs.Common.{◌≡◌, refl, sym, ◌∙◌}
 use Rattle.cacache_system.specs.declared.call.CallResult.TheVariants as says
-use Rattle.cacache_system.specs.CallLog.{said}
+use Rattle.cacache_system.specs.Seen.{said}
 use Rattle.cacache_folder.proofs.Reading.{front_full, front_short}
 use Rattle.cacache_folder.proofs.folder.whole.read_on.Goals as goal
 

@@ -1,8 +1,8 @@
-use Rattle.std.{proofs.Common.{◌≡◌, true, false, [], ◌∷◌, take, length, min, rules, arith, refl, sym, ap, subst, ◌∙◌}, specs.Arc.{arc_value}}
+use Rattle.std.{proofs.Common.{◌≡◌, true, false, length, min, arith, ap, subst, ◌∙◌}, specs.Arc.{arc_value}}
 use Rattle.std_io.specs.IoError.{error_kind}
 use Rattle.cacache_system.specs.declared.call.SystemCall.TheVariants as asks
 use Rattle.cacache_system.specs.declared.call.CallResult.TheVariants as says
-use Rattle.cacache_system.specs.CallLog.{said}
+use Rattle.cacache_system.specs.Seen.{said}
 use Rattle.cacache_system.specs.CallsOf as calls
 use Rattle.cacache_folder.{specs.FolderNumbers.{numbered_file}, proofs.{Reading.{piece_over, piece_run, took_refused, gives_over}, CallRuns.{run_as}}}
 use Rattle.cacache_folder.proofs.folder.whole.read_piece.Goals as goal

@@ -1,7 +1,7 @@
-use Rattle.std.proofs.Common.{◌≡◌, take, sym, refl}
+use Rattle.std.proofs.Common.{take, refl}
 use Rattle.std_io.specs.IoError.{error_kind}
 use Rattle.cacache_system.specs.declared.call.CallResult.TheVariants as says
-use Rattle.cacache_system.specs.CallLog.{said}
+use Rattle.cacache_system.specs.Seen.{said}
 use Rattle.cacache_folder.proofs.Reading.{front_run, front_fails}
 use Rattle.cacache_folder.proofs.folder.whole.read_whole.Goals as goal
 

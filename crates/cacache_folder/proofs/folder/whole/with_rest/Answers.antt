@@ -1,11 +1,11 @@
-use Rattle.std.proofs.Common.{◌≡◌, true, false, [], ◌∷◌, take, length, min, rules, arith, refl, sym, ap, subst, ◌∙◌}
+use Rattle.std.proofs.Common.{◌≡◌, refl}
 use Rattle.std_io.specs.IoError.{error_kind}
 use Rattle.cacache_system.specs.declared.call.SystemCall.TheVariants as asks
 use Rattle.cacache_system.specs.declared.call.CallResult.TheVariants as says
 use Rattle.std_io.specs.declared.io.kind.ErrorKind.TheVariants as kinds
-use Rattle.cacache_system.specs.CallLog.{said}
+use Rattle.cacache_system.specs.Seen.{said}
 use Rattle.cacache_system.specs.CallsOf as calls
-use Rattle.cacache_folder.proofs.{Reading.{rest_run, rest_refused}, CallRuns.{run_one}, Failing.{failed_as, failed_so}}
+use Rattle.cacache_folder.proofs.{Reading.{rest_run, rest_refused}, CallRuns.{run_one}, Answering.{failed_as, failed_so}}
 use Rattle.cacache_folder.proofs.folder.whole.with_rest.Goals as goal
 
 pub returns-in_err-read_rest : goal.returns-in_err-read_rest

@@ -1,6 +1,6 @@
 use Rattle.std.{proofs.Common.{rules, ◌≡◌}, specs.Prelude.{None}}
 use Rattle.cacache_disk.specs.Tree.{look}
-use Rattle.cacache_system_model.proofs.memory.Steps.{makes_folder}
+use Rattle.cacache_system_model.proofs.memory.Occurring.{makes_folder}
 use Rattle.cacache_system_model.proofs.memory.tree.make_folder.Goals as goal
 
 pub returns : goal.returns

@@ -1,7 +1,7 @@
 use Rattle.std.specs.Prelude.{length, take}
 use Rattle.std_io.specs.IoError.{error_kind}
 use Rattle.cacache_system.specs.declared.call.CallResult.TheVariants as says
-use Rattle.cacache_folder.{specs.FolderNumbers.{numbered_file}, proofs.HandleReads.{reading_over, reading_run}}
+use Rattle.cacache_folder.{specs.FolderNumbers.{numbered_file}, proofs.Reading.{reading_over, reading_run}}
 use Rattle.cacache_folder.proofs.folder.opened.SystemFileOpenedFile.read_some.Goals as goal
 
 pub returns-then-gives_no_more-clause-ran : goal.returns-then-gives_no_more-clause-ran

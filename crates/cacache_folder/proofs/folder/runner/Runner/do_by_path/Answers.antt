@@ -1,14 +1,14 @@
-use Rattle.std.proofs.Common.{◌≡◌, ◌≤◌, ℕ, true, false, [], ◌∷◌, take, length, min, rules, arith, refl, sym, ap, subst, ◌∙◌}
+use Rattle.std.proofs.Common.{refl, sym, ap, subst, ◌∙◌}
 use Rattle.std_io.specs.IoError.{error_kind}
 use Rattle.cacache_system.specs.declared.call.SystemCall.TheVariants as asks
 use Rattle.cacache_system.specs.declared.call.CallResult.TheVariants as says
 use Rattle.std_io.specs.declared.io.kind.ErrorKind.TheVariants as kind
-use Rattle.cacache_system.specs.{CallLog.{said}, AnswersOf.{StepRuns, failed_with}}
+use Rattle.cacache_system.specs.{Seen.{said}, AnswersOf.{StepRuns, failed_with, starts_at}}
 use Rattle.cacache_system.specs.CallsOf as calls
 use Rattle.cacache_store.specs.declared.store.step.Step.TheVariants as steps
 use Rattle.cacache_store.specs.declared.store.answer.Answer.TheVariants as answers
 use Rattle.cacache_folder.specs.FolderNumbers.{numbered, answered, answered_or, value_or}
-use Rattle.cacache_folder.proofs.{CallRuns.{run_one, run_none}, Answering.{answers_run, arm_as, arm_run}, ByPath.{by_path, by_file, whole_of}}
+use Rattle.cacache_folder.proofs.{CallRuns.{run_one, run_none, run_as}, Answering.{answers_run, arm_as, arm_run, value_is, by_path, by_file, whole_of}}
 use Rattle.cacache_folder.proofs.folder.runner.Runner.do_by_path.Goals as goal
 
 pub returns-in-MakeDirs-clause-ran : goal.returns-in-MakeDirs-clause-ran
@@ -50,8 +50,14 @@ returns-in-Symlink-clause-ran g c =
 pub returns-in-Copy-clause-ran : goal.returns-in-Copy-clause-ran
 returns-in-Copy-clause-ran g c =
     λ _. subst (λ step. StepRuns (numbered g.Y.System.number step) (answered_or g.Y.System.number (numbered g.Y.System.number step) c.took-in-Copy.result) (g.Y.System.calls c.args.self.now.system) (g.Y.System.calls c.copy.new.system)) (sym c.in-Copy.is)
-    (arm_run g.Y.System.number (steps.Copy c.in-Copy.from c.in-Copy.to) (calls.asking_source c.as_str-in-Copy.result.now c.as_str-in-Copy-2.result.now) says.Count (λ n. answers.Took n) c.copy.result c.took-in-Copy.result (g.Y.System.calls c.args.self.now.system) (g.Y.System.calls c.copy.new.system)
-    c.copy.ensures (ap (λ p. calls.asking_source p c.as_str-in-Copy-2.result.now) c.as_str-in-Copy.ensures.same ∙ ap (λ p. calls.asking_source c.in-Copy.from p) c.as_str-in-Copy-2.ensures.same) (λ _. refl) (λ _. refl) c.took-in-Copy.ensures)
+    (arm_as g.Y.System.number (steps.Copy c.in-Copy.from c.in-Copy.to) (λ n. answers.Took n) c.copy.result c.took-in-Copy.result (g.Y.System.calls c.args.self.now.system) (g.Y.System.calls c.copy.new.system) (
+      starts_at c.unwrap_or-number.result,
+      said says.Count c.copy.result,
+      subst (λ log. calls.RunLogged (calls.asking_source c.unwrap_or-number.result c.in-Copy.from c.in-Copy.to) (said says.Count c.copy.result) log (g.Y.System.calls c.copy.new.system)) c.random.ensures.unlogged
+          (run_as (calls.asking_source c.unwrap_or-number.result c.as_str-in-Copy.result.now c.as_str-in-Copy-2.result.now) (calls.asking_source c.unwrap_or-number.result c.in-Copy.from c.in-Copy.to) (said says.Count c.copy.result) (g.Y.System.calls c.random.new.self) (g.Y.System.calls c.copy.new.system) c.copy.ensures
+          (ap (λ p. calls.asking_source c.unwrap_or-number.result p c.as_str-in-Copy-2.result.now) c.as_str-in-Copy.ensures.same ∙ ap (λ p. calls.asking_source c.unwrap_or-number.result c.in-Copy.from p) c.as_str-in-Copy-2.ensures.same)),
+      value_is (steps.Copy c.in-Copy.from c.in-Copy.to) says.Count (λ n. answers.Took n) c.copy.result (λ _. refl) (λ _. refl),
+    ) c.took-in-Copy.ensures)
 
 pub returns-in-HardLink-clause-ran : goal.returns-in-HardLink-clause-ran
 returns-in-HardLink-clause-ran g c =

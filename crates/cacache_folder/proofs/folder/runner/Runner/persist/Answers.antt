@@ -1,5 +1,5 @@
-use Rattle.std.proofs.Common.{◌≡◌, true, false, refl, sym, ap, subst, ◌∙◌}
-use Rattle.cacache_folder.{specs.{FolderNumbers.{numbered_temp}, Moves.{Persists}}, proofs.{Moving.{persists_kept, persists_plain}, Answering.{temp_of}}}
+use Rattle.std.proofs.Common.{subst}
+use Rattle.cacache_folder.{specs.{FolderNumbers.{numbered_temp}, Moves.{Persists}}, proofs.{Making.{persists_kept, persists_plain}, Answering.{temp_of}}}
 use Rattle.cacache_folder.proofs.folder.runner.Runner.persist.Goals as goal
 
 pub returns-then-is_of-clause-ran : goal.returns-then-is_of-clause-ran

@@ -1,4 +1,3 @@
-use Rattle.std.proofs.Common.{◌≡◌, ◌∙◌}
 use Rattle.std_io.specs.IoError.{error_kind}
 use Rattle.cacache_folder.proofs.ListedFolders.{lists_run, lists_failed}
 use Rattle.cacache_folder.proofs.folder.runner.Runner.read_dir.Goals as goal

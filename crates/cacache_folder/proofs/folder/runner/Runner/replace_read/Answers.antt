@@ -1,6 +1,6 @@
-use Rattle.std.proofs.{Common.{◌≡◌, true, false, refl, sym, ap, subst, ◌∙◌}, lemmas.Result.{err_from_is_err_and}}
-use Rattle.cacache_system.specs.{declared.call.{SystemCall.TheVariants.{Rename}, CallResult.TheVariants.{Done}}, CallLog.{MakesCall, said}}
-use Rattle.cacache_folder.{specs.FolderNumbers.{numbered_temp}, proofs.Moving.{rewrites_kept, rewrites_not}}
+use Rattle.std.proofs.{Common.{subst}, lemmas.Result.{err_from_is_err_and}}
+use Rattle.cacache_system.specs.{declared.call.{SystemCall.TheVariants.{Rename}, CallResult.TheVariants.{Done}}, Seen.{MakesCall, said}}
+use Rattle.cacache_folder.{specs.FolderNumbers.{numbered_temp}, proofs.Making.{rewrites_kept, rewrites_not}}
 use Rattle.cacache_folder.proofs.folder.runner.Runner.replace_read.Goals as goal
 
 pub returns-clause-ran : goal.returns-clause-ran

@@ -1,13 +1,10 @@
-use Rattle.std.proofs.Common.{◌≡◌, ◌≤◌, ℕ, true, false, [], ◌∷◌, take, length, min, rules, arith, refl, sym, ap, subst, ◌∙◌}
-use Rattle.std_io.specs.IoError.{error_kind}
+use Rattle.std.proofs.Common.{refl, sym, ap, subst}
 use Rattle.cacache_system.specs.declared.call.SystemCall.TheVariants as asks
 use Rattle.cacache_system.specs.declared.call.CallResult.TheVariants as says
-use Rattle.cacache_system.specs.{CallLog.{said}, AnswersOf.{StepRuns}}
+use Rattle.cacache_system.specs.{Seen.{said}, AnswersOf.{StepRuns}}
 use Rattle.cacache_system.specs.CallsOf as calls
 use Rattle.cacache_store.specs.declared.store.step.Step.TheVariants as steps
-use Rattle.cacache_store.specs.declared.store.answer.Answer.TheVariants as answers
-use Rattle.cacache_folder.specs.{FolderNumbers.{numbered, answered}, Moves.{Persists}}
-use Rattle.cacache_folder.proofs.{CallRuns.{run_one}, Answering.{answers_run, answers_call, persists_answer, temp_of}, ByPath.{by_path, by_file, whole_of}}
+use Rattle.cacache_folder.{specs.{FolderNumbers.{numbered, answered}, Moves.{Persists}}, proofs.Answering.{answers_run, answers_call, persists_answer, temp_of, by_path, whole_of}}
 use Rattle.cacache_folder.proofs.folder.runner.Runner.step.Goals as goal
 
 pub returns-in-CreateTemp-clause-ran : goal.returns-in-CreateTemp-clause-ran

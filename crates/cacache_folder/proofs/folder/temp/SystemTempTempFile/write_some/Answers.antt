@@ -1,6 +1,6 @@
 use Rattle.cacache_system.specs.declared.call.SystemCall.TheVariants as asks
 use Rattle.cacache_system.specs.declared.call.CallResult.TheVariants as says
-use Rattle.cacache_system.specs.CallLog.{said}
+use Rattle.cacache_system.specs.Seen.{said}
 use Rattle.cacache_folder.proofs.CallRuns.{insists_run}
 use Rattle.cacache_folder.proofs.folder.temp.SystemTempTempFile.write_some.Goals as goal
 

@@ -25,7 +25,7 @@ use denote.Triple.Entry.{alive}
 use denote.Triple.Spec.{Meets, triple_of}
 use denote.Triple.Table.{entered}
 use denote.Triple.Walked.{says, Stays, stay_dropped, walk_of, ends_at, walk_Meets, Goes-dropped}
-use Rattle.cacache_system_model.{proofs.memory.Empty.{none, none_made}, specs.{memory.Noted.{items_of, noted}, contracts.memory.log.Log.with.Key.{name as #self}}}
+use Rattle.cacache_system_model.{proofs.memory.Logs.{none, none_made}, specs.{memory.Noted.{items_of, noted}, contracts.memory.log.Log.with.Key.{name as #self}}}
 use Rattle.cacache_system_model.specs.contracts.memory.log.Log as Log
 use Rattle.cacache_system_model.specs.contracts.memory.log.LoggedCalls as Kept
 use Rattle.cacache_system_model.specs.contracts.memory.log.Note as Note

@@ -1,5 +1,5 @@
 use Rattle.std.proofs.Common.{refl}
-use Rattle.cacache_system_model.proofs.memory.{Openings.{copied_there}, Puts.{put_written}}
+use Rattle.cacache_system_model.proofs.memory.Openings.{copied_there, put_written}
 use Rattle.cacache_system_model.proofs.memory.state.Memory.copy.Goals as goal
 
 pub with_file-requires : goal.with_file-requires

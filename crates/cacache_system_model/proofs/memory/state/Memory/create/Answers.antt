@@ -1,6 +1,6 @@
 use Rattle.std.{proofs.Common.{◌∙◌, ap, sym}, specs.Option.{option_copied}}
 use Rattle.cacache_disk.specs.Tree.{Tree, look}
-use Rattle.cacache_system_model.proofs.memory.{Openings.{opens_free}, Puts.{put_free}}
+use Rattle.cacache_system_model.proofs.memory.Openings.{opens_free, put_free}
 use Rattle.cacache_system_model.proofs.memory.state.Memory.create.Goals as goal
 
 pub make-requires : goal.make-requires

@@ -1,5 +1,5 @@
 use Rattle.std.proofs.Common.{subst}
-use Rattle.cacache_system_model.{specs.{declared.memory.files.Place.{Place}, Machine.{node_of}, memory.Files.{place_of, IsFile}}, proofs.memory.Puts.{put_longer}}
+use Rattle.cacache_system_model.{specs.{declared.memory.files.Place.{Place}, Machine.{node_of}, memory.Files.{place_of, IsFile}}, proofs.memory.Openings.{put_longer}}
 use Rattle.cacache_system_model.proofs.memory.state.Memory.lengthen.Goals as goal
 
 pub with_file-requires : goal.with_file-requires

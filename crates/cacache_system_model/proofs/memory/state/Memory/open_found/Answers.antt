@@ -1,6 +1,6 @@
 use Rattle.std.{proofs.Common.{◌∙◌, ap, sym}, specs.Option.{option_copied}}
 use Rattle.cacache_disk.specs.LedTo.{found}
-use Rattle.cacache_system_model.{specs.memory.Files.{Opens}, proofs.memory.{Displacing.{failed_as}, Looks.{found_bad}, Openings.{opens_bad, opens_found}}}
+use Rattle.cacache_system_model.{specs.memory.Files.{Opens}, proofs.memory.{Displacing.{failed_as}, Places.{found_bad}, Openings.{opens_bad, opens_found}}}
 use Rattle.cacache_system_model.proofs.memory.state.Memory.open_found.Goals as goal
 
 pub returns-in_err-names : goal.returns-in_err-names

@@ -1,5 +1,5 @@
 use Rattle.std.proofs.Common.{[]}
-use Rattle.cacache_system_model.proofs.memory.Puts.{put_written}
+use Rattle.cacache_system_model.proofs.memory.Openings.{put_written}
 use Rattle.cacache_system_model.proofs.memory.state.Memory.open_written.Goals as goal
 
 pub make-requires : goal.make-requires
