@@ -1,4 +1,3 @@
 pub mod ExportEffects
-pub mod Sharing
 pub mod Exported
 pub mod Arriving

@@ -1,6 +1,5 @@
 pub mod Persisting
 pub mod Stored
-pub mod Forms
 pub mod Deeds
 pub mod OpenWriters
 pub mod Puts

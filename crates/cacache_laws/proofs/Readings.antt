@@ -1,6 +1,5 @@
 pub mod ReadAnswers
 pub mod Known
-pub mod Looking
 pub mod Looks
 pub mod GivenReads
 pub mod OpenReaders

@@ -1,4 +1,3 @@
-pub mod SureSteps
 pub mod SureSpares
 pub mod SureRuns
 pub mod SurePlays

@@ -4,11 +4,8 @@ pub mod ReadResults
 pub mod WriteResults
 pub mod RemovalResults
 pub mod ExportResults
-pub mod Expected
 pub mod WriterResults
-pub mod JoinedResults
 pub mod LossResults
-pub mod UnchangedFiles
 pub mod OutsideSteps
 pub mod LinkLosses
 pub mod LinkerResults

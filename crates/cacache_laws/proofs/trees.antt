@@ -4,8 +4,7 @@ pub mod Covering
 pub mod Listing
 pub mod Indexed
 pub mod Twins
-pub mod Within
-mod Stepping
+pub mod Stepping
 mod Swept
 pub mod Keeping
 pub mod Logged
@@ -13,10 +12,8 @@ pub mod Looks
 pub mod Verified
 pub mod Collected
 pub mod Removed
-mod Links
 pub mod Temporary
 pub mod HiddenKeys
 pub mod Spared
 pub mod Led
-pub mod SoundRemovals
 pub mod Compactions

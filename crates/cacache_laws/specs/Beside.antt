@@ -1,11 +1,36 @@
--- What writes and removals keep apart from what they are made for.
-use Rattle.std.specs.Prelude.{◌≡◌, ◌⊎◌, ◌<◌, ◌^◌, ℕ, List, Option, None, Some, IsUtf8, length}
-use Rattle.cacache_core.specs.{declared.integrity.{algorithm.Algorithm.{Algorithm}, digest.Hash.{Hash}}, Integrity.{IsIntegrity, address, integrity_under}}
+-- What was known of a cache and still holds, and what writes and removals keep apart from what they are made for.
+use Rattle.std.specs.Prelude.{◌≡◌, ℕ, List, Option, ◌⊎◌, ◌<◌, ◌^◌, None, Some, IsUtf8, length}
+use Rattle.cacache_core.specs.{declared.integrity.{digest.Hash.{Hash}, algorithm.Algorithm.{Algorithm}}, Paths.{home_of}, Integrity.{IsIntegrity, address, integrity_under}}
 use Rattle.cacache_store.specs.declared.store.log.LogItem.{LogItem}
-use Rattle.cacache_calls.specs.declared.command.Command.TheVariants as commands
-use Rattle.cacache_calls.specs.{declared.{command.Put.{Put}, reply.Reply.{Reply}}, Sound.{FormedIfWritten}, Storing.{insertion_of, put_commit}}
+use Rattle.cacache_disk.specs.Replay.{tree_of}
+use Rattle.cacache_entry.specs.Bucket.{Found, latest}
+use Rattle.cacache_laws.specs.{ReadAnswers.{entries_on}, Caches.{HasContent, HasKey, lies_under, plain_put}}
+use Rattle.cacache_calls.specs.{declared.command.Put.{Put}, Sound.{FormedIfWritten}, Storing.{insertion_of, put_commit}}
 use Rattle.cacache_value.specs.Value.{InFile}
-use Rattle.cacache_laws.specs.{Caches.{IsCache, HasContent, HasKey, Called, lies_under, plain_put}, Keeping.{found_under, KeepsOthers}}
+use Rattle.cacache_calls.specs.declared.command.Command.TheVariants as commands
+
+-- the entry that the key leads to, if any
+abbrev pub found_under : List ℕ → List ℕ → List LogItem → Option Found
+found_under cache key log = latest key (entries_on (home_of cache) (tree_of log) key)
+
+-- what was known of keys and contents still holds
+pub record StaysKnown (cache : List ℕ) (old new : List LogItem) : Type 0 where
+  pub finds : (key : List ℕ) → found_under cache key new ≡ found_under cache key old
+  pub lies : (i : List Hash) → lies_under cache i new ≡ lies_under cache i old
+  pub key : (key bytes : List ℕ) (i : List Hash)
+      → HasKey cache key i bytes old → HasKey cache key i bytes new
+  pub content : (i : List Hash) (bytes : List ℕ)
+      → HasContent cache i bytes old → HasContent cache i bytes new
+
+-- this holds for all contents, and for every key except this one
+pub record KeepsOthers (cache except : List ℕ) (old new : List LogItem) : Type 0 where
+  pub finds : (other : List ℕ) → (other ≡ except → ⊥)
+      → found_under cache other new ≡ found_under cache other old
+  pub lies : (i : List Hash) → lies_under cache i new ≡ lies_under cache i old
+  pub key : (other bytes : List ℕ) (i : List Hash) → (other ≡ except → ⊥)
+      → HasKey cache other i bytes old → HasKey cache other i bytes new
+  pub content : (i : List Hash) (bytes : List ℕ)
+      → HasContent cache i bytes old → HasContent cache i bytes new
 
 -- ---- a write
 
@@ -42,26 +67,9 @@ FitsEntry cache p =
 abbrev pub own_integrity : Put → List Hash
 own_integrity p = integrity_under p.options.algorithm p.data
 
--- a put keeps everything except its key and its bytes, whatever it answers
-abbrev pub WritesKeep : Type 0
-WritesKeep =
-    (cache : List ℕ) (p : Put) (r : Reply) (old new : List LogItem)
-    → FitsEntry cache p → IsCache cache old → Called cache (commands.Put p) r old new
-    → IsCache cache new × KeepsBeside cache p.key (own_integrity p) p.data old new
-
 -- a put without a size, an integrity or metadata fits
 abbrev pub PlainWritesFit : Type 0
 PlainWritesFit =
     (a : Algorithm) (cache key bytes : List ℕ) (moment : ℕ)
     → IsUtf8 key → length bytes < 2 ^ 64 → moment < 2 ^ 64
     → FitsEntry cache (plain_put a key bytes moment)
-
--- ---- removals
-
--- a removal of a key keeps all other keys and all contents, whatever it answers
-abbrev pub RemovalsKeep : Type 0
-RemovalsKeep =
-    (cache key : List ℕ) (moment : ℕ) (r : Reply) (old new : List LogItem)
-    → IsUtf8 key → moment < 2 ^ 64 → IsCache cache old
-    → Called cache (commands.Delete (record { key = key; moment = moment })) r old new
-    → KeepsOthers cache key old new

@@ -1,14 +1,14 @@
 -- What a store in memory holds in the words of its user, and what each call does in these words.
-use Rattle.std.specs.Prelude.{◌≡◌, ◌⊎◌, ◌<◌, ◌^◌, ℕ, true, false, List, [], ◌∷◌, ◌++◌, Option, None, Some, IsUtf8, length, map}
+use Rattle.std.specs.Prelude.{◌≡◌, ◌⊎◌, ◌<◌, ◌^◌, ℕ, false, List, [], ◌∷◌, ◌++◌, Option, None, Some, IsUtf8, length, map}
 use Rattle.serde_json.specs.Data.{null}
-use Rattle.cacache_core.specs.{declared.{errors.{Error.{Error, TheVariants.{EntryNotFound, IoError, OutOfMemory}}, Fault.{Fault}}, integrity.{algorithm.Algorithm.{Algorithm}, digest.Hash.{Hash}}}, Integrity.{IsIntegrity, Meets, address}, PathNames.{home_of}}
+use Rattle.cacache_core.specs.{declared.{errors.{Error.{Error, TheVariants.{IoError, OutOfMemory}}, Fault.{Fault}}, integrity.{algorithm.Algorithm.{Algorithm}, digest.Hash.{Hash}}}, Integrity.{IsIntegrity, Meets, address}, Paths.{home_of}}
 use Rattle.cacache_store.specs.declared.store.log.LogItem.{LogItem, TheVariants.{Made, Foreign}}
-use Rattle.cacache_disk.specs.memory.Replay.{tree_of, IsLog}
-use Rattle.cacache_entry.specs.Latest.{Found, latest}
-use Rattle.cacache_calls.specs.{declared.{command.{Command.{Command}, Put.{Put}}, reply.Reply.{Reply, TheVariants.{Stored, Read, LookedUp, Exists, Done, Refused}}}, Causes.{Faulted, OfWalk}, Runs.{Moves, Ran, plain_reply}, Sound.{MayBegin}, Table.{opening}}
+use Rattle.cacache_disk.specs.Replay.{tree_of, IsLog}
+use Rattle.cacache_entry.specs.Bucket.{Found, latest}
+use Rattle.cacache_calls.specs.{declared.{command.{Command.{Command}, Put.{Put}}, reply.Reply.{Reply, TheVariants.{Stored, Read, Done, Refused}}}, Promises.{Faulted, OfWalk}, Runs.{Moves, Ran, plain_reply}, Table.{opening}}
 use Rattle.cacache_calls.specs.declared.command.Command.TheVariants as commands
 use Rattle.cacache_value.specs.{Kinds.{Elsewhere, IsFor}, Value.{Blob, InFile, empty_value, value_of_tree}}
-use Rattle.cacache_history.specs.{History.{NamesIntegrity}, Setup.{Setup, call_site, may_export, is_outside}, ShownTurns.{blob_at}}
+use Rattle.cacache_history.specs.{Setup.{Setup}, Turns.{blob_at}}
 use Rattle.cacache_laws.specs.{Sequence.{IsSound}, ReadAnswers.{entries_on}}
 
 -- ---- what a store in memory holds, by its log
@@ -100,15 +100,6 @@ setup_at cache base = record { cache = cache; base = base; outside = []; callers
 abbrev pub FreshIsEmpty : Type 0
 FreshIsEmpty = (cache : List ℕ) → IsEmptyCache cache []
 
--- a call that may begin leaves a cache on which calls may be made
-abbrev pub CachesLast : Type 0
-CachesLast =
-    (cache : List ℕ) (command : Command) (r : Reply) (old new : List LogItem)
-    (c : Called cache command r old new)
-    → MayBegin (call_site (setup_at cache c.base) c.number) (may_export (setup_at cache c.base))
-    (is_outside (setup_at cache c.base)) command
-    → NamesIntegrity command → IsCache cache old → IsCache cache new
-
 -- after a write that stored, the key leads to the bytes
 abbrev pub WritesKey : List ℕ → List ℕ → List ℕ → Reply → List LogItem → List LogItem → Type 0
 WritesKey cache key bytes (Stored i) old new = HasKey cache key i bytes new
@@ -136,68 +127,6 @@ ReadsKey =
     → IsCache cache old → HasKey cache key i bytes old → Called cache (commands.Get key) r old new
     → IsCache cache new × GivesBytes (HasKey cache key i bytes new) bytes r old new
 
--- a read by integrity answers the bytes that lie under it, which stay
-abbrev pub ReadsContent : Type 0
-ReadsContent =
-    (cache bytes : List ℕ) (i : List Hash) (r : Reply) (old new : List LogItem)
-    → IsCache cache old → HasContent cache i bytes old
-    → Called cache (commands.GetHash i) r old new
-    → IsCache cache new × GivesBytes (HasContent cache i bytes new) bytes r old new
-
--- a lookup answers an entry of this integrity, and this holds after it
-abbrev pub GivesEntry : Type 0 → List Hash → Reply → List LogItem → List LogItem → Type 0
-GivesEntry Stays i (LookedUp (Some found)) old new = (found.integrity ≡ i) × Stays
-GivesEntry Stays i (Refused e) old new = IsExcused e old new
-GivesEntry Stays i r old new = ⊥
-
--- so does each lookup of a key that leads to it
-abbrev pub FindsKey : Type 0
-FindsKey =
-    (cache key bytes : List ℕ) (i : List Hash) (r : Reply) (old new : List LogItem)
-    → IsCache cache old → HasKey cache key i bytes old → Called cache (commands.Find key) r old new
-    → IsCache cache new × GivesEntry (HasKey cache key i bytes new) i r old new
-
--- a yes says that this holds, and a no that a step failed
-abbrev pub SaysThere : Type 0 → Reply → List LogItem → List LogItem → Type 0
-SaysThere Stays (Exists true) old new = Stays
-SaysThere Stays (Exists false) old new = AStepFailed old new
-SaysThere Stays (Refused e) old new = IsExcused e old new
-SaysThere Stays r old new = ⊥
-
--- each question about an integrity with bytes under it answers so
-abbrev pub AsksWhetherHeld : Type 0
-AsksWhetherHeld =
-    (cache bytes : List ℕ) (i : List Hash) (r : Reply) (old new : List LogItem)
-    → IsCache cache old → HasContent cache i bytes old
-    → Called cache (commands.Exists i) r old new
-    → IsCache cache new × SaysThere (HasContent cache i bytes new) r old new
-
--- after a removal that is done, the key leads to nothing
-abbrev pub RemovesKey : List ℕ → List ℕ → Reply → List LogItem → List LogItem → Type 0
-RemovesKey cache key Done old new = LacksKey cache key new
-RemovesKey cache key (Refused e) old new = IsExcused e old new
-RemovesKey cache key r old new = ⊥
-
--- so does each removal
-abbrev pub RemovalsLast : Type 0
-RemovalsLast =
-    (cache key : List ℕ) (moment : ℕ) (r : Reply) (old new : List LogItem)
-    → IsUtf8 key → moment < 2 ^ 64 → IsCache cache old
-    → Called cache (commands.Delete (record { key = key; moment = moment })) r old new
-    → IsCache cache new × RemovesKey cache key r old new
-
--- a read finds no entry of the key
-abbrev pub FindsNone : List ℕ → List ℕ → Reply → List LogItem → List LogItem → Type 0
-FindsNone cache key (Refused e) old new = (e ≡ EntryNotFound cache key) ⊎ IsExcused e old new
-FindsNone cache key r old new = ⊥
-
--- so does each read of a key that leads to nothing
-abbrev pub ReadsNone : Type 0
-ReadsNone =
-    (cache key : List ℕ) (r : Reply) (old new : List LogItem)
-    → IsCache cache old → LacksKey cache key old → Called cache (commands.Get key) r old new
-    → IsCache cache new × FindsNone cache key r old new
-
 -- after a clearing that is done the cache is empty; one may also fail for what it walks through
 abbrev pub Empties : List ℕ → Reply → List LogItem → List LogItem → Type 0
 Empties cache Done old new = IsEmptyCache cache new
@@ -222,12 +151,6 @@ PlantsLast =
     × (value_of_tree (home_of cache) (tree_of new) ≡ value_of_tree (home_of cache) (tree_of old))
 
 -- ---- calls after one another
-
--- a call makes the log grow
-abbrev pub CallsGrow : Type 0
-CallsGrow =
-    (cache : List ℕ) (command : Command) (r : Reply) (old new : List LogItem)
-    → Called cache command r old new → Grows old new
 
 -- what grew twice grew
 abbrev pub GrowthsJoin : Type 0

@@ -1,15 +1,15 @@
 -- What an export answers if all of its steps succeed, by what lies under its source and what is at
 -- its path.
 use Rattle.std.specs.Prelude.{◌≡◌, ℕ, List, [], Option, None, Some, Result, Ok, Err, if◌then◌else◌, length}
-use Rattle.cacache_core.specs.{declared.{errors.{Error.TheVariants.{EntryNotFound, IoError, IntegrityError}, Fault.{Fault, TheVariants.{NotFound, InvalidInput}}, IntegrityFault.TheVariants.{Check}}, integrity.digest.Hash.{Hash}}, Integrity.{actual}, Meeting.{meets}}
+use Rattle.cacache_core.specs.{declared.{errors.{Error.TheVariants.{EntryNotFound, IoError, IntegrityError}, Fault.{Fault, TheVariants.{NotFound, InvalidInput}}, IntegrityFault.TheVariants.{Check}}, integrity.digest.Hash.{Hash}}, Integrity.{actual}, Matching.{meets}}
 use Rattle.cacache_store.specs.declared.store.log.LogItem.{LogItem}
-use Rattle.cacache_disk.specs.{LedTo.{and_then, bytes_there, free, writable}, Tree.{Tree, look}, memory.Replay.{tree_of}}
-use Rattle.cacache_entry.specs.Latest.{Found}
+use Rattle.cacache_disk.specs.{LedTo.{and_then, bytes_there, free, writable}, Tree.{Tree, look}, Replay.{tree_of}}
+use Rattle.cacache_entry.specs.Bucket.{Found}
 use Rattle.cacache_calls.specs.declared.command.Command.TheVariants as commands
 use Rattle.cacache_calls.specs.{declared.{command.{Export.{Export}, How.{How, TheVariants.{Copy, HardLink, Reflink}}, Source.{Source, TheVariants.{Hash as OfHash, Key as OfKey}}}, reply.Reply.{Reply, TheVariants.{Copied, Done, Refused}}}, Replies.{OrMemory}}
 use Rattle.cacache_value.specs.{Shows.{blob_bytes, link_end}, Value.{AtLink, Blob, InFile}}
 use Rattle.cacache_history.specs.History.{NamesSource}
-use Rattle.cacache_laws.specs.{Caches.{Called, IsCache, lies_under}, Keeping.{found_under}, Succeeds.{NamesFolder}}
+use Rattle.cacache_laws.specs.{Caches.{Called, IsCache, lies_under}, Beside.{found_under}, Succeeds.{NamesFolder}}
 
 -- ---- what lies there
 

@@ -3,9 +3,9 @@ use Rattle.std.specs.Prelude.{◌≡◌, ◌⊎◌, ℕ, List, [], ◌∷◌, �
 use Rattle.cacache_core.specs.{declared.{errors.{Error.TheVariants.{OutOfMemory}, Fault.{Fault}}, integrity.digest.Hash.{Hash}}, Integrity.{IsHash}}
 use Rattle.cacache_store.specs.{declared.store.{log.LogItem.{LogItem}, plain.{PlainFile.{PlainFile}, PlainTemp.{PlainTemp}}}, Plain.{PlainStep, PlainAnswer}}
 use Rattle.cacache_store.specs.declared.store.step.Step.TheVariants as steps
-use Rattle.cacache_disk.specs.{declared.luck.Luck.TheVariants.{Take}, Tree.{Tree}, Apply.{given, opened}, memory.Replay.{tree_of, IsLog}}
-use Rattle.cacache_calls.specs.{declared.{command.Command.{Command}, reply.Reply.{Reply, TheVariants.{Refused}}, carried.Commit.{Commit}}, Causes.{Faulted, HasCause, own_of}, StepPaths.{content_path}, Runs.{Moves, Runs, Goes, Gains, plain_reply}, Sound.{MayBegin}, State.{State, hashing, Hashing}, Storing.{persist, write_rest}, Table.{piece, opening}}
-use Rattle.cacache_value.specs.{OpeningTrees.{LieApart}, Traces.{acts}, Value.{wide_value, cache_part, value_of_tree}}
+use Rattle.cacache_disk.specs.{declared.luck.Luck.TheVariants.{Take}, Tree.{Tree}, Apply.{given, opened}, Replay.{tree_of, IsLog}}
+use Rattle.cacache_calls.specs.{declared.{command.Command.{Command}, reply.Reply.{Reply, TheVariants.{Refused}}, carried.Commit.{Commit}}, Promises.{Faulted, HasCause, own_of}, Steps.{content_path}, Runs.{Moves, Runs, Goes, Gains, plain_reply}, Sound.{MayBegin}, State.{State, hashing, Hashing}, Storing.{persist, write_rest}, Table.{piece, opening}}
+use Rattle.cacache_value.specs.{Placed.{LieApart}, Acts.{acts}, Value.{wide_value, cache_part, value_of_tree}}
 use Rattle.cacache_history.specs.{Setup.{Setup, call_site, home, may_export, is_outside}, History.{Turn, turn_of, NamesIntegrity}, Commits.{Deed, finds, deeds, IsCase}, TurnReplies.{ReadsValue}, Values.{IsThere}}
 use Rattle.cacache_laws.specs.Sequence.{tree_on, turns_on, AreAnswered, plain_moves, Alike, after_deeds, IsSound}
 

@@ -1,12 +1,51 @@
--- What an insertion does to a cache in a store in memory, in the words of its caller.
-use Rattle.std.specs.Prelude.{◌≡◌, ◌<◌, ◌^◌, ℕ, false, List, Option, None, Some, IfSome, IsUtf8, option_map}
-use Rattle.serde_json.specs.Data.{null}
-use Rattle.cacache_core.specs.{declared.{errors.Error.TheVariants.{SerdeError}, integrity.{algorithm.Algorithm.{Algorithm}, digest.Hash.{Hash}}}, Integrity.{IsIntegrity}}
+-- What a put, an insertion and a removal that are done leave in the cache, in the words of their caller.
+use Rattle.std.specs.Prelude.{◌≡◌, ℕ, List, [], ◌∷◌, ◌++◌, Some, Option, None, IfSome, option_map}
+use Rattle.cacache_core.specs.{declared.{integrity.digest.Hash.{Hash}, errors.Error.TheVariants.{SerdeError}}, Integrity.{digest, hash_of, IsIntegrity}}
+use Rattle.cacache_disk.specs.Tree.{Tree}
+use Rattle.cacache_calls.specs.{declared.{command.{Put.{Put}, Delete.{Delete}, Insert.{Insert}}, reply.Reply.{TheVariants.{Stored, Done, Refused}, Reply}}, Inserting.{insertion, deletion, refused_cause}, Storing.{insertion_of, put_commit}, Sound.{FormedIfWritten}}
+use Rattle.cacache_value.specs.Value.{InFile, value_of_tree}
+use Rattle.cacache_history.specs.Setup.{Setup, home}
+use Rattle.cacache_laws.specs.{Sequence.{SequenceCall, tree_on, CallIsAnswered}, ReadAnswers.{entries_on}, Caches.{IsCache, IsExcused, HasContent, HasKey, LacksKey, Called}, Beside.{found_under, KeepsOthers}}
 use Rattle.cacache_store.specs.declared.store.log.LogItem.{LogItem}
-use Rattle.cacache_entry.specs.Latest.{Found, found_of}
+use Rattle.cacache_entry.specs.Bucket.{Found, found_of}
 use Rattle.cacache_calls.specs.declared.command.Command.TheVariants as commands
-use Rattle.cacache_calls.specs.{declared.{command.Insert.{Insert}, reply.Reply.{Reply, TheVariants.{Stored, Refused}}}, Inserting.{insertion, refused_cause}, Sound.{FormedIfWritten}}
-use Rattle.cacache_laws.specs.{Caches.{IsCache, IsExcused, HasContent, HasKey, LacksKey, Called}, Keeping.{found_under, KeepsOthers}}
+
+-- the hash that the bytes are known by, under the algorithm of the options
+abbrev pub own_hash : Put → Hash
+own_hash p = hash_of p.options.algorithm (digest p.options.algorithm p.data)
+
+-- the key has its entry after the others, and the bytes are the content
+pub record HasStored (s : Setup) (t new : Tree) (p : Put) (key : List ℕ) : Type 0 where
+  pub entries :
+      entries_on (home s) new key
+      ≡ entries_on (home s) t key ++ (insertion_of (put_commit s.cache p) key).entry ∷ []
+  pub content :
+      (value_of_tree (home s) new).contents (own_hash p) ≡ Some (InFile p.data)
+
+-- this holds after a put with a key that answered that it stored
+abbrev pub PutsStore : Type 0
+PutsStore =
+    (s : Setup) (t : Tree) (call : SequenceCall) (p : Put) (key : List ℕ) (i : List Hash)
+    → call.command ≡ commands.Put p → p.key ≡ Some key → call.reply ≡ Stored i → CallIsAnswered s t call
+    → HasStored s t (tree_on t call.moves) p key
+
+-- an insertion that answered that it stored added its entry
+abbrev pub InsertsAdd : Type 0
+InsertsAdd =
+    (s : Setup) (t : Tree) (call : SequenceCall) (i : Insert) (answered : List Hash)
+    → call.command ≡ commands.Insert i → call.reply ≡ Stored answered → CallIsAnswered s t call
+    → entries_on (home s) (tree_on t call.moves) i.key
+    ≡ entries_on (home s) t i.key ++ (insertion s.cache i).entry ∷ []
+
+-- a removal that answered that it is done added the key's tombstone
+abbrev pub DeletesAdd : Type 0
+DeletesAdd =
+    (s : Setup) (t : Tree) (call : SequenceCall) (d : Delete)
+    → call.command ≡ commands.Delete d → call.reply ≡ Done → CallIsAnswered s t call
+    → entries_on (home s) (tree_on t call.moves) d.key
+    ≡ entries_on (home s) t d.key ++ (deletion s.cache d).entry ∷ []
+
+-- ---- what an insertion does to a cache in a store in memory, in the words of its caller
 
 -- the integrity that the key leads to, whatever lies under it; none if no entry answers
 abbrev pub leads_to : List ℕ → List ℕ → List LogItem → Option (List Hash)
@@ -29,29 +68,6 @@ InsertsLast =
     → IfSome i.options.integrity IsIntegrity → FormedIfWritten (insertion cache i)
     → IsCache cache old → Called cache (commands.Insert i) r old new
     → IsCache cache new × InsertsKey cache i r old new × KeepsOthers cache i.key old new
-
--- an entry that is inserted with an integrity or none, without a size or metadata
-abbrev pub plain_insert : Algorithm → List ℕ → Option (List Hash) → ℕ → Insert
-plain_insert a key integrity moment = record {
-  key = key;
-  moment = moment;
-  options = record {
-    algorithm = a;
-    size = None;
-    integrity = integrity;
-    metadata = null;
-    raw_metadata = None;
-    durable = false;
-  };
-}
-
--- it is well-formed, and can be written
-abbrev pub PlainInsertsFit : Type 0
-PlainInsertsFit =
-    (a : Algorithm) (cache key : List ℕ) (integrity : Option (List Hash)) (moment : ℕ)
-    → IsUtf8 key → moment < 2 ^ 64
-    → FormedIfWritten (insertion cache (plain_insert a key integrity moment))
-    × (refused_cause (insertion cache (plain_insert a key integrity moment)) ≡ None)
 
 -- ---- what comes of it
 

@@ -2,12 +2,12 @@
 use Rattle.std.specs.Prelude.{◌≡◌, ◌⊎◌, ℕ, List, [], ◌++◌, Option, None, Some, Result, Ok, Err, if◌then◌else◌, length}
 use Rattle.cacache_core.specs.{declared.{errors.{Error.{Error, TheVariants.{EntryNotFound, IoError, OutOfMemory}}, Fault.{Fault, TheVariants.{AlreadyExists, IsADirectory}}}, integrity.digest.Hash.{Hash}}, Integrity.{IsIntegrity}}
 use Rattle.cacache_store.specs.declared.store.{log.LogItem.{LogItem}, plain.PlainFile.{PlainFile}}
-use Rattle.cacache_disk.specs.{Apply.{opened}, LedTo.{file_at}, Tree.{Tree}, memory.Replay.{tree_of, IsLog}}
-use Rattle.cacache_entry.specs.Latest.{Found}
+use Rattle.cacache_disk.specs.{Apply.{opened}, LedTo.{file_at}, Tree.{Tree}, Replay.{tree_of, IsLog}}
+use Rattle.cacache_entry.specs.Bucket.{Found}
 use Rattle.cacache_calls.specs.{declared.{carried.Commit.{Commit}, command.Link.{Link}, reply.Reply.{Reply, TheVariants.{Refused}}, target.Target.{Target}}, Linking.{based, commit_for, link_target, with_size}, Replies.{OrMemory}, Runs.{without_message}}
 use Rattle.cacache_calls.specs.declared.command.Command.TheVariants as commands
 use Rattle.cacache_value.specs.{Shows.{blob_there}, Value.{Blob}}
-use Rattle.cacache_laws.specs.{Caches.{Called, IsCache, lies_under}, ExportEffects.{IsApart}, Keeping.{found_under}, Looks.{bytes_under}, OpenLinkers.{CommitsRest, OpensSized, OpensTarget}, OpenReaders.{OpensByKey, OpensContent}, Standing.{IsStanding}, Succeeds.{NamesFolder, compared_reply, is_yes}}
+use Rattle.cacache_laws.specs.{Caches.{Called, IsCache, lies_under}, ExportEffects.{IsApart}, Beside.{found_under}, Looks.{bytes_under}, OpenLinkers.{CommitsRest, OpensSized, OpensTarget}, OpenReaders.{OpensByKey, OpensContent}, Standing.{IsStanding}, Succeeds.{NamesFolder, compared_reply, is_yes}}
 
 -- ---- openings
 

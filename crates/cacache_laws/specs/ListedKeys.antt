@@ -2,11 +2,11 @@
 use Rattle.std.specs.Prelude.{◌≡◌, ◌⊎◌, ℕ, All, List, [], ◌∷◌, Some, Ok, Err}
 use Rattle.cacache_core.specs.declared.errors.{Error.TheVariants.{IoError, OutOfMemory}, Fault.TheVariants.{TooDeep}}
 use Rattle.cacache_store.specs.declared.store.log.LogItem.{LogItem}
-use Rattle.cacache_entry.specs.Latest.{Found}
+use Rattle.cacache_entry.specs.Bucket.{Found}
 use Rattle.cacache_calls.specs.declared.command.Command.TheVariants as commands
-use Rattle.cacache_calls.specs.{declared.reply.Reply.{Reply, TheVariants.{Listed, Refused}}, ListReplies.{In}, State.{Item}}
+use Rattle.cacache_calls.specs.{declared.reply.Reply.{Reply, TheVariants.{Listed, Refused}}, Replies.{In}, State.{Item}}
 use Rattle.cacache_history.specs.ListingTurns.{NoKeyTwice}
-use Rattle.cacache_laws.specs.{Caches.{IsCache, Called, AStepFailed}, Keeping.{found_under}}
+use Rattle.cacache_laws.specs.{Caches.{AStepFailed}, Beside.{found_under}}
 
 -- an entry is what its key leads to; an error says that a step failed, or that there was too much
 abbrev pub IsShown : List ℕ → List LogItem → List LogItem → Item → Type 0
@@ -35,9 +35,3 @@ abbrev pub GivesKeys : List ℕ → Reply → List LogItem → List LogItem → 
 GivesKeys cache (Listed items) old new = ListsKeys cache items old new
 GivesKeys cache (Refused e) old new = e ≡ OutOfMemory
 GivesKeys cache r old new = ⊥
-
--- so does each listing
-abbrev pub ListingsGive : Type 0
-ListingsGive =
-    (cache : List ℕ) (r : Reply) (old new : List LogItem)
-    → IsCache cache old → Called cache commands.Ls r old new → GivesKeys cache r old new

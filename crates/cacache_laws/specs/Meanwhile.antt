@@ -5,8 +5,8 @@ use Rattle.cacache_core.specs.{declared.integrity.digest.Hash.{Hash}, Integrity.
 use Rattle.cacache_store.specs.declared.store.step.Step.TheVariants.{RemoveFile}
 use Rattle.cacache_store.specs.declared.store.answer.Answer.TheVariants as answers
 use Rattle.cacache_disk.specs.declared.luck.Luck.TheVariants.{Plain}
-use Rattle.cacache_entry.specs.Latest.{Found}
-use Rattle.cacache_calls.specs.{declared.{command.{Command.{Command}, Put.{Put}}, reply.Reply.TheVariants.{Done, Listed, Stored}}, ListReplies.{In}, State.{Item}, StepPaths.{content_path}}
+use Rattle.cacache_entry.specs.Bucket.{Found}
+use Rattle.cacache_calls.specs.{declared.{command.{Command.{Command}, Put.{Put}}, reply.Reply.TheVariants.{Done, Listed, Stored}}, Replies.{In}, State.{Item}, Steps.{content_path}}
 use Rattle.cacache_calls.specs.declared.command.Command.TheVariants as commands
 use Rattle.cacache_history.specs.{declared.record.Record.{Record, TheVariants.{Began, Moved}}, AddedEntries.{IsContentOf, address_of_put}, Commits.{FoundFirst}, History.{History, Turn, Call, IsLegal, now_at}, Lookups.{SparesKey, lookup_at}, Places.{now_before, CallIn, MoveAt, MovesAre}, Setup.{Setup}, Values.{IsThere, value_at}}
 use Rattle.cacache_laws.specs.{ListedKeys.{AreAllFound}, results.DurableCases.{followed_by}}

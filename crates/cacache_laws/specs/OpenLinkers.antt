@@ -6,9 +6,9 @@ use Rattle.cacache_core.specs.declared.errors.Error.{Error}
 use Rattle.cacache_store.specs.declared.store.answer.Answer.TheVariants as answers
 use Rattle.cacache_store.specs.declared.store.{log.LogItem.{LogItem}, plain.PlainFile.{PlainFile}}
 use Rattle.cacache_store.specs.declared.store.step.Step.TheVariants as steps
-use Rattle.cacache_disk.specs.{Apply.{opened}, memory.Replay.{IsLog, shown, tree_of}}
+use Rattle.cacache_disk.specs.{Apply.{opened}, Replay.{IsLog, shown, tree_of}}
 use Rattle.cacache_calls.specs.{declared.{command.Link.{Link}, reply.Reply.{Reply, TheVariants.{Refused}}}, Inserting.{refused_cause}, Linking.{based, link_target}, Runs.{Ran, plain_reply}, SingleSteps.{Does, FailsAt}, State.{hashing, to_link}, Storing.{insertion_of, put_commit}, Effects.{IsRefused}}
-use Rattle.cacache_laws.specs.{Beside.{own_integrity}, Caches.{IsCache, IsExcused, Grows}, ExportEffects.{IsApart}, Links.{FitsLink, KeepsBesideLink, LeavesLink, put_like}, OpenWriters.{LeavesKnownCache}, Puts.{ExpectsIntegrity}}
+use Rattle.cacache_laws.specs.{Beside.{own_integrity}, Caches.{IsCache, IsExcused, Grows}, ExportEffects.{IsApart}, Links.{FitsLink, KeepsBesideLink, put_like}}
 
 -- ---- an opening
 
@@ -42,22 +42,6 @@ module _ (path : List ℕ) where
       ⊎ ((size : ℕ) × (mid : Option (List LogItem)) × TellsSize size old mid
       × OpensTarget (Err e) mid new)
 
--- a target that was opened showed bytes, which the file has; an error is excused
-abbrev pub GivesTarget :
-    List ℕ → List ℕ → Result PlainFile Error → List LogItem → List LogItem → Type 0
-GivesTarget cache path (Ok file) old new =
-    (held : List ℕ) × (shown (tree_of old) path ≡ Some held) × (file ≡ opened held)
-    × (file.left < 2 ^ 64 → TargetOpened cache path held file)
-GivesTarget cache path (Err e) old new = IsExcused e old new
-
--- and the size that it reported is theirs
-abbrev pub GivesSized :
-    List ℕ → List ℕ → Result (ℕ × PlainFile) Error → List LogItem → List LogItem → Type 0
-GivesSized cache path (Ok (size, file)) old new =
-    (held : List ℕ) × (shown (tree_of old) path ≡ Some held) × (file ≡ opened held)
-    × (size ≡ length held) × (file.left < 2 ^ 64 → TargetOpened cache path held file)
-GivesSized cache path (Err e) old new = IsExcused e old new
-
 -- ---- a commit
 
 -- no size is expected, or the one that so many bytes have
@@ -76,33 +60,6 @@ pub record CommitsRest (cache base : List ℕ) (l : Link) (bytes rest : List ℕ
   pub logged : IsLog new
 
 -- ---- what it does
-
--- the commit of a linker leaves a cache, and so much of all the bytes of its target
-abbrev pub LinkersCommit : Type 0
-LinkersCommit =
-    (cache base : List ℕ) (l : Link) (bytes rest : List ℕ) (first : PlainFile) (r : Reply)
-    (old new : List LogItem)
-    → FitsLink cache l → IsApart cache (based base l.target)
-    → SuitsSize l.options.size (length (bytes ++ rest))
-    → ExpectsIntegrity (put_like l (bytes ++ rest))
-    → TargetOpened cache (based base l.target) (bytes ++ rest) first
-    → IsCache cache old → CommitsRest cache base l bytes rest r old new
-    → IsCache cache new × Grows old new
-    × LeavesLink cache (put_like l (bytes ++ rest)) (based base l.target) r old new
-
--- an opening leaves a cache, and all that was known of it still holds
-abbrev pub LinkersOpen : Type 0
-LinkersOpen =
-    (cache path : List ℕ) (r : Result PlainFile Error) (old new : List LogItem)
-    → IsCache cache old → OpensTarget path r (Some old) (Some new) → IsLog new
-    → LeavesKnownCache cache old new × GivesTarget cache path r old new
-
--- so does one that asks the size first
-abbrev pub LinkersOpenSized : Type 0
-LinkersOpenSized =
-    (cache path : List ℕ) (r : Result (ℕ × PlainFile) Error) (old new : List LogItem)
-    → IsCache cache old → OpensSized path r (Some old) (Some new) → IsLog new
-    → LeavesKnownCache cache old new × GivesSized cache path r old new
 
 -- the entry that the commit of these bytes adds can be written
 abbrev pub CanWrite : List ℕ → Link → List ℕ → Type 0

@@ -1,12 +1,12 @@
 -- Open writers and exports on a store in memory if all of their steps succeed.
 use Rattle.std.specs.Prelude.{◌≡◌, ◌<◌, ◌^◌, ℕ, Bool, true, false, List, Some, Result, Ok, IfOk, IfErr, length}
-use Rattle.cacache_core.specs.{declared.errors.Error.{Error, TheVariants.{OutOfMemory}}, PathNames.{Names, names_of}}
+use Rattle.cacache_core.specs.{declared.errors.Error.{Error, TheVariants.{OutOfMemory}}, Paths.{Names, names_of}}
 use Rattle.cacache_store.specs.declared.store.{log.LogItem.{LogItem}, plain.PlainTemp.{PlainTemp}}
-use Rattle.cacache_disk.specs.{declared.node.Node.TheVariants.{File}, LedTo.{free, writable}, Tree.{look}, memory.Replay.{tree_of, IsLog}}
-use Rattle.cacache_calls.specs.{declared.{command.{Command.{Command}, How.{How, TheVariants.{Copy, Reflink, HardLink}}, Put.{Put}, Source.{Source}}, reply.Reply.{Reply, TheVariants.{Copied, Done}}}, Licence.{KeepsTo, Licence}, Replies.{OrMemory}, Sound.{MayBegin}, StepPaths.{temp_path}}
+use Rattle.cacache_disk.specs.{declared.node.Node.TheVariants.{File}, LedTo.{free, writable}, Tree.{look}, Replay.{tree_of, IsLog}}
+use Rattle.cacache_calls.specs.{declared.{command.{Command.{Command}, How.{How, TheVariants.{Copy, Reflink, HardLink}}, Put.{Put}, Source.{Source}}, reply.Reply.{Reply, TheVariants.{Copied, Done}}}, Licence.{KeepsTo, Licence}, Replies.{OrMemory}, Sound.{MayBegin}, Steps.{temp_path}}
 use Rattle.cacache_calls.specs.declared.command.Command.TheVariants as commands
 use Rattle.cacache_history.specs.{History.{NamesIntegrity}, Setup.{call_site, is_outside, may_export}}
-use Rattle.cacache_laws.specs.{Caches.{Called, IsCache, setup_at}, ExportEffects.{NamesBytes}, Exported.{export_by}, OpenWriters.{CommitsBytes, OpensWriter}, Standing.{IsStanding}, Succeeds.{NamesFolder, IsUnused, put_reply}}
+use Rattle.cacache_laws.specs.{Caches.{Called, IsCache, setup_at}, ExportEffects.{NamesBytes, export_by}, OpenWriters.{CommitsBytes, OpensWriter}, Standing.{IsStanding}, Succeeds.{NamesFolder, IsUnused, put_reply}}
 
 -- a file is at this path
 abbrev pub FileAt : List ℕ → List LogItem → Type 0

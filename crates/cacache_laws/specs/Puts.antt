@@ -2,11 +2,10 @@
 use Rattle.std.specs.Prelude.{◌≡◌, ◌⊎◌, ℕ, List, Some, IfSome}
 use Rattle.cacache_core.specs.{declared.integrity.digest.Hash.{Hash}, Integrity.{IsIntegrity}}
 use Rattle.cacache_store.specs.declared.store.log.LogItem.{LogItem}
-use Rattle.cacache_entry.specs.Latest.{Found, found_of}
+use Rattle.cacache_entry.specs.Bucket.{Found, found_of}
 use Rattle.cacache_calls.specs.declared.command.Command.TheVariants as commands
-use Rattle.cacache_calls.specs.{declared.{command.Put.{Put}, reply.Reply.{Reply, TheVariants.{Stored}}}, Inserting.{given_or}, Promises.{answered}, Storing.{insertion_of, put_commit}}
-use Rattle.cacache_history.specs.Values.{IsThere}
-use Rattle.cacache_laws.specs.{Caches.{IsCache, HasContent, Called, lies_under}, Keeping.{found_under}, Beside.{FitsEntry, KeepsBeside, own_integrity}, OpenWriters.{CommitsBytes, IsOpened}}
+use Rattle.cacache_calls.specs.{declared.{command.Put.{Put}, reply.Reply.{Reply}}, Inserting.{given_or}, Promises.{answered}, Storing.{insertion_of, put_commit}}
+use Rattle.cacache_laws.specs.{Caches.{IsCache, HasContent}, Beside.{found_under, FitsEntry, KeepsBeside, own_integrity}, OpenWriters.{CommitsBytes, IsOpened}}
 
 -- ---- keys
 
@@ -45,40 +44,9 @@ pub record HasPut (cache : List ℕ) (p : Put) (i : List Hash) (log : List LogIt
   pub entry : LeadsToPut cache p log
   pub content : HasContent cache (own_integrity p) p.data log
 
--- this holds after a put that stored, with any options, with or without a key
-abbrev pub PutsLeave : Type 0
-PutsLeave =
-    (cache : List ℕ) (p : Put) (i : List Hash) (old new : List LogItem)
-    → FitsEntry cache p → ExpectsIntegrity p → IsCache cache old
-    → Called cache (commands.Put p) (Stored i) old new → HasPut cache p i new
-
--- whatever a put answers, its key leads there or where it led
-abbrev pub PutsMayLead : Type 0
-PutsMayLead =
-    (cache : List ℕ) (p : Put) (r : Reply) (old new : List LogItem)
-    → FitsEntry cache p → ExpectsIntegrity p → IsCache cache old
-    → Called cache (commands.Put p) r old new → MayLeadToPut cache p old new
-
 -- ---- commits
 
--- the same of a commit, except that what was there may have stayed if its bytes couldn't be moved
--- to their place: they, or another text with their digest, or a link
-pub record HasCommitted (cache : List ℕ) (p : Put) (i : List Hash) (old new : List LogItem)
-    : Type 0 where
-  pub stored : i ≡ stored_as p
-  pub entry : LeadsToPut cache p new
-  pub content : HasContent cache (own_integrity p) p.data new
-      ⊎ (IsThere (lies_under cache (own_integrity p) old)
-      × (lies_under cache (own_integrity p) new ≡ lies_under cache (own_integrity p) old))
-
--- this holds after a commit that stored, with any options, with or without a key
-abbrev pub CommitsLeave : Type 0
-CommitsLeave =
-    (cache : List ℕ) (p : Put) (number : ℕ) (i : List Hash) (old new : List LogItem)
-    → FitsEntry cache p → ExpectsIntegrity p → IsOpened cache number → IsCache cache old
-    → CommitsBytes cache p number (Stored i) old new → HasCommitted cache p i old new
-
--- whatever a commit answers, its key leads there or where it led, and all else stays
+-- whatever a commit answers, its key leads to the put's entry or where it led, and all else stays
 abbrev pub CommitsKeep : Type 0
 CommitsKeep =
     (cache : List ℕ) (p : Put) (number : ℕ) (r : Reply) (old new : List LogItem)

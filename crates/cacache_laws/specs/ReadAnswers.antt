@@ -1,13 +1,13 @@
 -- What a call that reads answers by what the cache holds, and that it leaves the tree.
 use Rattle.std.specs.Prelude.{◌≡◌, ◌⊎◌, ℕ, List, Option, None, Some}
 use Rattle.sha1.specs.Sha1.{sha1}
-use Rattle.cacache_core.specs.{declared.{errors.Error.TheVariants.{EntryNotFound, IoError, OutOfMemory}, integrity.digest.Hash.{Hash}}, Integrity.{address}, PathNames.{Names}}
+use Rattle.cacache_core.specs.{declared.{errors.Error.TheVariants.{EntryNotFound, IoError, OutOfMemory}, integrity.digest.Hash.{Hash}}, Integrity.{address}, Paths.{Names}}
 use Rattle.cacache_disk.specs.Tree.{Tree}
-use Rattle.cacache_entry.specs.{Entry.{Entry}, Latest.{Found, latest}}
+use Rattle.cacache_entry.specs.{Entry.{Entry}, Bucket.{Found, latest}}
 use Rattle.cacache_calls.specs.{declared.{command.Command.{Command}, reply.Reply.{Reply, TheVariants.{LookedUp, Refused}}}, Replies.{content_reply}, Runs.{plain_reply}}
 use Rattle.cacache_calls.specs.declared.command.Command.TheVariants as commands
 use Rattle.cacache_value.specs.{Acts.{list_of}, Shows.{blob_bytes}, Value.{value_of_tree}}
-use Rattle.cacache_history.specs.{Setup.{Setup, home}, ShownTurns.{blob_at, as_refusal}}
+use Rattle.cacache_history.specs.{Setup.{Setup, home}, Turns.{blob_at, as_refusal}}
 use Rattle.cacache_laws.specs.Sequence.{SequenceCall, tree_on, CallIsAnswered}
 
 -- ---- what a command that reads is to answer

@@ -4,8 +4,7 @@ use Rattle.sha1.specs.Sha1.{sha1}
 use Rattle.cacache_core.specs.{declared.integrity.digest.Hash.{Hash}, Integrity.{IsIntegrity}}
 use Rattle.cacache_store.specs.declared.store.log.LogItem.{LogItem}
 use Rattle.cacache_calls.specs.declared.command.Command.TheVariants as commands
-use Rattle.cacache_calls.specs.declared.reply.Reply.{Reply, TheVariants.{Done, Refused}}
-use Rattle.cacache_laws.specs.{Caches.{IsCache, HasContent, HasKey, IsExcused, Called, RemovesKey, lies_under}, Keeping.{found_under}, Inserts.{leads_to}, Beside.{ShareAddress}}
+use Rattle.cacache_laws.specs.{Caches.{HasContent, HasKey, lies_under}, Beside.{found_under, ShareAddress}, Inserts.{leads_to}}
 
 -- ---- of a content
 
@@ -20,19 +19,6 @@ pub record KeepsApart (cache : List ℕ) (removed : List Hash) (old new : List L
       → HasContent cache i bytes old → HasContent cache i bytes new
   pub key : (key bytes : List ℕ) (i : List Hash) → (ShareAddress i removed → ⊥)
       → HasKey cache key i bytes old → HasKey cache key i bytes new
-
--- after a removal that is done, nothing lies under the integrity
-abbrev pub RemovesContent : List ℕ → List Hash → Reply → List LogItem → List LogItem → Type 0
-RemovesContent cache i Done old new = lies_under cache i new ≡ None
-RemovesContent cache i (Refused e) old new = IsExcused e old new
-RemovesContent cache i r old new = ⊥
-
--- so does each removal of a content, and all else stays, whatever it answers
-abbrev pub ContentsGo : Type 0
-ContentsGo =
-    (cache : List ℕ) (i : List Hash) (r : Reply) (old new : List LogItem)
-    → IsIntegrity i → IsCache cache old → Called cache (commands.RemoveHash i) r old new
-    → IsCache cache new × RemovesContent cache i r old new × KeepsApart cache i old new
 
 -- ---- of a key with its content
 
@@ -53,10 +39,3 @@ pub record KeepsApartFrom (cache removed : List ℕ) (old new : List LogItem) : 
       ⊎ (LeadsThere cache removed i old × (lies_under cache i new ≡ None))
   pub content : (i : List Hash) (bytes : List ℕ) → (LeadsThere cache removed i old → ⊥)
       → HasContent cache i bytes old → HasContent cache i bytes new
-
--- after a full removal that is done the key leads to nothing, and all else stays, whatever it answers
-abbrev pub KeysGo : Type 0
-KeysGo =
-    (cache key : List ℕ) (r : Reply) (old new : List LogItem)
-    → IsCache cache old → Called cache (commands.RemoveFully key) r old new
-    → IsCache cache new × RemovesKey cache key r old new × KeepsApartFrom cache key old new

@@ -1,13 +1,13 @@
 -- Calls that are made one after another on one store in memory.
 use Rattle.std.specs.Prelude.{◌≡◌, ◌⊎◌, ℕ, List, [], ◌∷◌, ◌++◌, Option, Some, map, All}
-use Rattle.cacache_core.specs.{declared.{errors.Error.TheVariants.{OutOfMemory}, integrity.digest.Hash.{Hash}}, Integrity.{IsHash}, PathNames.{Names}}
+use Rattle.cacache_core.specs.{declared.{errors.Error.TheVariants.{OutOfMemory}, integrity.digest.Hash.{Hash}}, Integrity.{IsHash}, Paths.{Names}}
 use Rattle.cacache_store.specs.declared.store.log.LogItem.{LogItem, TheVariants.{Made, Foreign}}
-use Rattle.cacache_disk.specs.{declared.luck.Luck.TheVariants.{Plain}, Tree.{Tree}, Apply.{apply}, Rooted.{Rooted}, memory.Replay.{tree_of, IsLog}}
+use Rattle.cacache_disk.specs.{declared.luck.Luck.TheVariants.{Plain}, Tree.{Tree, Rooted}, Apply.{apply}, Replay.{tree_of, IsLog}}
 use Rattle.cacache_entry.specs.FittingEntries.{IsEntry}
-use Rattle.cacache_calls.specs.{declared.{command.{Command.{Command}, Put.{Put}}, reply.Reply.{Reply, TheVariants.{Refused}}}, Causes.{HasCause, own_of}, StepPaths.{content_path}, Runs.{Moves, Runs, Ran, plain_reply}, Sound.{MayBegin}, Table.{opening}}
+use Rattle.cacache_calls.specs.{declared.{command.{Command.{Command}, Put.{Put}}, reply.Reply.{Reply, TheVariants.{Refused}}}, Promises.{HasCause, own_of}, Steps.{content_path}, Runs.{Moves, Runs, Ran, plain_reply}, Sound.{MayBegin}, Table.{opening}}
 use Rattle.cacache_calls.specs.declared.command.Command.TheVariants as commands
-use Rattle.cacache_value.specs.{Acts.{list_of, change}, OpeningTrees.{LieApart, IsOpening}, Placed.{Placed}, Traces.{Move, acts}, Value.{Value, wide_value, cache_part, value_of_tree}}
-use Rattle.cacache_history.specs.{Setup.{Setup, call_site, home, may_export, is_outside}, History.{Turn, turn_of, NamesIntegrity}, Buckets.{BucketsHaveKeys, HoldOwn}, Commits.{Deed, does, finds, deeds, IsCase}, TurnReplies.{ReadsValue}, Values.{AreRight, IsThere}}
+use Rattle.cacache_value.specs.{Acts.{list_of, change, Move, acts}, Placed.{LieApart, IsOpening, Placed}, Value.{Value, wide_value, cache_part, value_of_tree}}
+use Rattle.cacache_history.specs.{Setup.{Setup, call_site, home, may_export, is_outside}, History.{Turn, turn_of, NamesIntegrity}, AddedEntries.{BucketsHaveKeys, HoldOwn}, Commits.{Deed, does, finds, deeds, IsCase}, TurnReplies.{ReadsValue}, Values.{AreRight, IsThere}}
 
 -- a call that was made: its command, its number, the steps that it made, and its reply
 pub record SequenceCall : Type 0 where

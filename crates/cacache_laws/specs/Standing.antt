@@ -1,13 +1,13 @@
 -- Stores in memory about which less is known than about a cache: a loss of power may have damaged
 -- contents and buckets.
 use Rattle.std.specs.Prelude.{◌≡◌, ℕ, List}
-use Rattle.cacache_core.specs.{declared.{errors.Error.{Error}, integrity.digest.Hash.{Hash}}, PathNames.{home_of}}
+use Rattle.cacache_core.specs.{declared.{errors.Error.{Error}, integrity.digest.Hash.{Hash}}, Paths.{home_of}}
 use Rattle.cacache_store.specs.declared.store.log.LogItem.{LogItem}
-use Rattle.cacache_disk.specs.{Rooted.{Rooted}, memory.Replay.{tree_of}}
+use Rattle.cacache_disk.specs.{Tree.{Rooted}, Replay.{tree_of}}
 use Rattle.cacache_calls.specs.declared.{command.{Command.{Command}, Put.{Put}}, reply.Reply.{Reply, TheVariants.{Refused, Stored}}}
 use Rattle.cacache_calls.specs.declared.command.Command.TheVariants as commands
 use Rattle.cacache_value.specs.Placed.{Placed}
-use Rattle.cacache_laws.specs.{Beside.{FitsEntry, KeepsBeside, own_integrity}, CallErrors.{IsPlainPut}, Caches.{IsCache, HasKey, IsExcused, Called, GivesBytes}, Keeping.{found_under}, Looks.{OnlyLooks, GivesFound}, Puts.{ExpectsIntegrity, HasPut, MayLeadToPut}}
+use Rattle.cacache_laws.specs.{Beside.{FitsEntry, KeepsBeside, own_integrity, found_under}, CallErrors.{IsPlainPut}, Caches.{IsCache, HasKey, IsExcused, Called, GivesBytes}, Looks.{OnlyLooks, GivesFound}, Puts.{ExpectsIntegrity, HasPut, MayLeadToPut}}
 
 -- everything is where it may be; the bytes of contents and buckets may be any
 pub record IsStanding (cache : List ℕ) (log : List LogItem) : Type 0 where

@@ -1,15 +1,15 @@
 -- What calls on a store in memory answer if all of their steps succeed and memory isn't refused.
 use Rattle.std.specs.{Prelude.{◌≡◌, ◌⊎◌, ◌<◌, ◌^◌, ◌==◌, ℕ, Bool, true, false, List, [], ◌∷◌, Option, None, Some, Ok, Err, if◌then◌else◌}, List.{AllByRecursion}}
 use Rattle.sha1.specs.Sha1.{sha1}
-use Rattle.cacache_core.specs.{declared.{errors.{Error.TheVariants.{SizeMismatch, SerdeError, IoError, IntegrityError}, Fault.TheVariants.{NotFound, TooDeep}, IntegrityFault.TheVariants.{Check}, SerdeCause.{SerdeCause}}, integrity.digest.Hash.{Hash}}, Integrity.{IsIntegrity, address}, PathNames.{Names, names_of, home_of}, Paths.{index_area, temp_names}}
+use Rattle.cacache_core.specs.{declared.{errors.{Error.TheVariants.{SizeMismatch, SerdeError, IoError, IntegrityError}, Fault.TheVariants.{NotFound, TooDeep}, IntegrityFault.TheVariants.{Check}, SerdeCause.{SerdeCause}}, integrity.digest.Hash.{Hash}}, Integrity.{IsIntegrity, address}, Paths.{Names, names_of, home_of, index_area, temp_names}}
 use Rattle.cacache_store.specs.{declared.store.{answer.Answer.TheVariants.{There}, log.LogItem.{LogItem}}, Plain.{PlainAnswer}}
-use Rattle.cacache_disk.specs.{declared.node.Node.{Node}, Tree.{Tree}, memory.Replay.{tree_of}}
-use Rattle.cacache_entry.specs.Latest.{Found}
+use Rattle.cacache_disk.specs.{declared.node.Node.{Node}, Tree.{Tree}, Replay.{tree_of}}
+use Rattle.cacache_entry.specs.Bucket.{Found}
 use Rattle.cacache_calls.specs.{declared.{carried.Commit.{Commit}, command.{Command.{Command}, Delete.{Delete}, Insert.{Insert}, Put.{Put}}, reply.Reply.{Reply, TheVariants.{Stored, LookedUp, Exists, Listed, Done, Refused}}}, Inserting.{insertion, deletion, refused_cause}, Licence.{Licence, KeepsTo}, Replies.{OrMemory}, Sound.{MayBegin}, State.{Insertion, Item}, Walking.{failed}, Storing.{insertion_of, matches, put_commit}}
 use Rattle.cacache_calls.specs.declared.command.Command.TheVariants as commands
 use Rattle.cacache_value.specs.{Kinds.{node_below}, Shows.{blob_there}, Value.{value_of_tree}}
-use Rattle.cacache_history.specs.{History.{NamesIntegrity}, ShownTurns.{blob_at}, Setup.{call_site, may_export, is_outside}}
-use Rattle.cacache_laws.specs.{Beside.{FitsEntry}, Caches.{IsCache, Called, setup_at, lies_under}, Keeping.{found_under}, ReadAnswers.{get_on, read_on}, Standing.{IsStanding}}
+use Rattle.cacache_history.specs.{History.{NamesIntegrity}, Turns.{blob_at}, Setup.{call_site, may_export, is_outside}}
+use Rattle.cacache_laws.specs.{Beside.{FitsEntry, found_under}, Caches.{IsCache, Called, setup_at, lies_under}, ReadAnswers.{get_on, read_on}, Standing.{IsStanding}}
 
 -- ---- when no step fails
 

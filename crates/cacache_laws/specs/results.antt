@@ -5,11 +5,9 @@ pub mod Exports
 pub mod Links
 pub mod Handles
 pub mod Linkers
-pub mod Joins
 pub mod Lists
 pub mod Losses
 pub mod FoundLinks
-pub mod LeftLinks
 pub mod Success
 pub mod DurableCases
 pub mod Composed

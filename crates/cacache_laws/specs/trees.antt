@@ -4,10 +4,8 @@ pub mod Index
 pub mod Contents
 pub mod Verifying
 pub mod Collecting
-pub mod Removing
 pub mod Idle
 pub mod Temporary
-pub mod Mending
 pub mod Housed
 pub mod Compacting
 pub mod Compacted

@@ -3,6 +3,6 @@
 mod laws;
 
 pub use laws::{
-    answer_laws, collect_laws, compact_laws, holding_laws, idle_laws, index_laws, repair_laws,
-    spared_laws, sweep_laws, verify_laws, walk_laws,
+    answer_laws, collect_laws, compact_laws, holding_laws, index_laws, repair_laws, spared_laws,
+    walk_laws,
 };

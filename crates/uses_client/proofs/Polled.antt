@@ -1,9 +1,22 @@
--- Polls of a whole write, one after another.
-use Rattle.std.proofs.{Common.{◌≡◌, inl, inr, ℕ, ◌+◌, ◌<◌, arith, List, [], ◌∷◌, ◌++◌, Result, Ok, Err, refl, sym, ap, subst, ◌∙◌}, lemmas.List.{length_push, nil_from_length}}
-use Rattle.std.specs.Prelude.{⊤}
+-- Polls of a whole write, one after another, and errors of a write to a writer's file.
+use Rattle.std.proofs.{Common.{Result, Ok, Err, ◌≡◌, inl, inr, ℕ, ◌+◌, ◌<◌, arith, List, [], ◌∷◌, ◌++◌, refl, sym, ap, subst, ◌∙◌}, lemmas.List.{length_push, nil_from_length}}
+use Rattle.std.specs.Prelude.{IfErr, ⊤}
+use Rattle.cacache.specs.{Calls.{Error}, Laws.{EntryNotFound, IntegrityError, IoError, OutOfMemory, SerdeError, SizeMismatch}, OpenHandles.{AllTaken, Tells, WritesOn, left, left_over, next_piece}}
+use Rattle.uses_client.specs.{Packages.{FailsWrite}, Writing.{Answer, GaveAnswers, WritesWithin}}
 use Rattle.futures.specs.declared.task.Poll.{Poll, TheVariants.{Ready, Pending}}
-use Rattle.cacache.specs.{Calls.{Error}, Polled.{AllTaken, Tells, WritesOn, left, left_over, next_piece}}
-use Rattle.uses_client.specs.Polling.{Answer, GaveAnswers, WritesWithin}
+
+-- an error that can be no other
+pub only_writes : {X : Type 0} (P : Error → Type 0) (r : Result X Error) → IfErr r P → ((c k : _) → P (EntryNotFound c k) → ⊥) → ((w a : _) → P (SizeMismatch w a) → ⊥) → ((c m : _) → P (SerdeError c m) → ⊥) → ((f : _) → P (IntegrityError f) → ⊥)
+    → IfErr r FailsWrite
+only_writes P (Ok x) h none sizes serde integrity = tt
+only_writes P (Err OutOfMemory) h none sizes serde integrity = tt
+only_writes P (Err (IoError fault message)) h none sizes serde integrity = tt
+only_writes P (Err (EntryNotFound c k)) h none sizes serde integrity = absurd (none c k h)
+only_writes P (Err (SizeMismatch w a)) h none sizes serde integrity = absurd (sizes w a h)
+only_writes P (Err (SerdeError c m)) h none sizes serde integrity = absurd (serde c m h)
+only_writes P (Err (IntegrityError f)) h none sizes serde integrity = absurd (integrity f h)
+
+-- ---- polls of a whole write, one after another
 
 -- what one more answer leaves
 left_on : (answers : List Answer) (rest : List ℕ) (a : Answer) → left_over rest (answers ++ a ∷ []) ≡ left (left_over rest answers) a

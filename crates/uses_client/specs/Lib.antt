@@ -1,5 +1,3 @@
 pub mod Packages
 pub mod Writing
-pub mod Audits
-pub mod Polling
 pub mod Given

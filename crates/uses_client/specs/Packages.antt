@@ -1,6 +1,7 @@
--- What is said about a package.
-use Rattle.std.specs.Prelude.{◌≡◌, ◌⊎◌, ℕ, List, [], ◌∷◌, Some}
-use Rattle.cacache.specs.{Calls.{Error, Said, nothing_said, without_message}, Integrities.{Algorithm, Hash, Sha256}, Laws.{Data, FailsCommit, IoError, NotFound, OutOfMemory, TooDeep}}
+-- What is said about a package, and what an audit says about the entries of a cache.
+use Rattle.std.specs.Prelude.{◌≡◌, ◌⊎◌, ℕ, List, [], ◌∷◌, Some, All, Bool, true, false, map}
+use Rattle.cacache.specs.{Calls.{Error, Said, nothing_said, without_message}, Integrities.{Algorithm, Hash, Sha256}, Laws.{Data, FailsCommit, IoError, NotFound, OutOfMemory, TooDeep, LiesWhole, NamesFolder}, Entries.{Found}, Stores.{LogItem}}
+use Rattle.uses_client.specs.declared.auditing.Verdict.{Verdict}
 
 -- its metadata, and how many bytes it has
 abbrev pub package_said : Data → ℕ → Said
@@ -37,3 +38,20 @@ abbrev pub FailsClear : Error → Type 0
 FailsClear e =
     (e ≡ OutOfMemory) ⊎ (without_message e ≡ IoError TooDeep [])
     ⊎ (without_message e ≡ IoError NotFound [])
+
+-- ---- what an audit says about the entries of a cache
+
+-- a yes says that whole bytes lie there, a no that none do
+abbrev pub IsRight : List ℕ → List Hash → List LogItem → Bool → Type 0
+IsRight cache i log true = (bytes : List ℕ) × LiesWhole cache i log bytes
+IsRight cache i log false =
+    NamesFolder cache → (bytes : List ℕ) → LiesWhole cache i log bytes → ⊥
+
+-- the entries of verdicts
+abbrev pub entries_in : List Verdict → List Found
+entries_in verdicts = map (λ (v : Verdict). v.entry) verdicts
+
+-- each verdict is right
+abbrev pub AreRight : List ℕ → List LogItem → List Verdict → Type 0
+AreRight cache log verdicts =
+    All (λ (v : Verdict). IsRight cache v.entry.integrity log v.whole) verdicts

@@ -1,7 +1,7 @@
 //! Packages that are listed and audited.
 ghost use Rattle.std.specs.Prelude.{◌≡◌, ◌⊎◌, IfOk, IfErr, Ok, Err, false, map};
 ghost use Rattle.cacache.specs.Laws.{IsCache, FailsForMemory, FailsListing, In, LeavesKnownCache, AreAllEntries, ListedEntries, OutOfMemory, tree_of};
-ghost use Rattle.uses_client.specs.Audits.{AreRight, IsRight, entries_in};
+ghost use Rattle.uses_client.specs.Packages.{AreRight, IsRight, entries_in};
 
 use cacache::env::{Clock, Env, Names};
 use cacache::errors::Error;

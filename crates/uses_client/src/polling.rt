@@ -1,7 +1,7 @@
 //! A whole write by polls.
 ghost use Rattle.std.specs.Prelude.{◌≡◌, ◌<◌};
 ghost use Rattle.futures.specs.{Poll.{OnPending}, Task.{IsArmed, Keeps}};
-ghost use Rattle.uses_client.specs.Polling.{WritesWithin};
+ghost use Rattle.uses_client.specs.Writing.{WritesWithin};
 
 use cacache::Result;
 use cacache::laws::write_laws;

@@ -1,5 +1,5 @@
 //! What a collection keeps while others write, in a user's words. Nothing is done: a world has these facts.
-ghost use Rattle.uses_worlds.specs.Collections.{CollectionsKeepPuts};
+ghost use Rattle.uses_worlds.specs.Callers.{CollectionsKeepPuts};
 
 use cacache::laws::meanwhile_laws;
 use cacache::world::World;

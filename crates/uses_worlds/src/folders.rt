@@ -1,5 +1,5 @@
 //! What many callers over real folders see, in a user's words, as a model of the system has it. Nothing is done.
-ghost use Rattle.uses_worlds.specs.Machines.{FoldersAreSafe};
+ghost use Rattle.uses_worlds.specs.Callers.{FoldersAreSafe};
 
 use cacache::laws::system_history_laws;
 

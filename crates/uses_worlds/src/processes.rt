@@ -1,5 +1,5 @@
 //! What several processes on one folder see of one bucket, in a user's words. Nothing is done.
-ghost use Rattle.uses_worlds.specs.Buckets.{AppendedAreFound, LookupsReadWhole};
+ghost use Rattle.uses_worlds.specs.Callers.{AppendedAreFound, LookupsReadWhole};
 
 use cacache::laws::bucket_file_laws;
 

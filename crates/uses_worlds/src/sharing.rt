@@ -1,6 +1,6 @@
 //! What threads that shared a world were answered, in a user's words.
 ghost use Rattle.std.specs.Prelude.{◌≡◌, All, OnOk};
-ghost use Rattle.uses_worlds.specs.Threads.{ReadIsRight};
+ghost use Rattle.uses_worlds.specs.Callers.{ReadIsRight};
 
 use cacache::laws::seat_laws;
 use cacache::world::{Seat, SharedWorld, World};

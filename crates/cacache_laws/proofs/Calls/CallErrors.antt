@@ -4,7 +4,7 @@ use Rattle.std.proofs.{Common.{arith, rules, ◌≡◌, ◌⊎◌, inl, inr, ℕ
 use Rattle.cacache_core.specs.declared.{errors.{SerdeCause.{SerdeCause}, Error.{TheVariants.{SerdeError, EntryNotFound, OutOfMemory}, Error}}, integrity.digest.Hash.{Hash}}
 use Rattle.cacache_store.specs.declared.store.log.LogItem.{LogItem}
 use Rattle.cacache_calls.specs.{Walking.{EachVisit}, declared.{visit.Visit.{Visit, TheVariants.{ReadBucket}}, command.{Insert.{Insert}, Put.{Put}}, reply.Reply.{Reply, TheVariants.{Refused}}, carried.Commit.{Commit}}, Inserting.{unless_refused, insertion, deletion, refused_cause}, State.{State, Site, doing, creating, writing, syncing, persisting, linking, confirming, appending, walking, over, Insertion}, Storing.{insertion_of, indexed, sized, compared, placed, put_commit}, Table.{after, opening}, Runs.{Moves, Runs, without_message}}
-use Rattle.cacache_calls.proofs.{Closed.{AnyAnswer, ClosedCommit, ClosedWalk, Closed, kept_always}, Visits.{MayMeet}}
+use Rattle.cacache_calls.proofs.{Closed.{AnyAnswer, ClosedCommit, ClosedWalk, Closed, kept_always}, Keys.{MayMeet}}
 use Rattle.cacache_laws.specs.{CallErrors.{FailsOnly, CallsFailOnly}, Caches.{IsExcused}}
 use Rattle.cacache_calls.specs.declared.command.Command.TheVariants as commands
 

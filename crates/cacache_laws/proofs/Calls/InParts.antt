@@ -3,13 +3,13 @@
 use Rattle.std.proofs.{lemmas.{Grind.{common_steps}, Bool.{eq-eqb, cond-true}, List.{take_all}}, Common.{rules, ◌≡◌, inl, inr, ℕ, List, [], ◌∷◌, ◌++◌, None, Some, refl, sym, ap, subst, ◌∙◌, append-nil, append_assoc, ◌==◌, Option, length, take, drop, arith, eqb-true}, Math.Seq.{drop-length}}
 use Rattle.std.specs.Prelude.{map}
 use Rattle.cacache_core.specs.declared.errors.{Error.TheVariants.{OutOfMemory}, Fault.{Fault}}
-use Rattle.cacache_store.specs.{declared.store.{log.LogItem.TheVariants.{Made}, plain.{PlainFile.{PlainFile}, PlainTemp.{PlainTemp}}}, Fits.{Fits}}
-use Rattle.cacache_disk.specs.{declared.luck.Luck.TheVariants.{Plain, Take}, Tree.{Tree, bare}, Apply.{apply, given, grown, rest_of, opened}, memory.Replay.{replay, IsReplayable, tree_of, IsLog}}
-use Rattle.cacache_calls.specs.{declared.{command.Command.{Command}, reply.Reply.{Reply, TheVariants.{Refused}}}, Runs.{Moves, Runs, Goes, plain_reply}, State.{State, Hashing, hashing}, Table.{piece, after, opening}, Causes.{Faulted, Faults}, Common.{fails}, Storing.{persist, write_rest}}
-use Rattle.cacache_calls.proofs.{EarnedErrors.{io_errors_have_causes}, Going.{goes_lost}, Branches.{cond_leads}}
-use Rattle.cacache_value.{specs.{OpeningTrees.{LieApart}, Value.{value_of_tree}}, proofs.Traces.{traces_act}}
+use Rattle.cacache_store.specs.{declared.store.{log.LogItem.TheVariants.{Made}, plain.{PlainFile.{PlainFile}, PlainTemp.{PlainTemp}}}, Plain.{Fits}}
+use Rattle.cacache_disk.specs.{declared.luck.Luck.TheVariants.{Plain, Take}, Tree.{Tree, bare}, Apply.{apply, given, grown, rest_of, opened}, Replay.{replay, IsReplayable, tree_of, IsLog}}
+use Rattle.cacache_calls.specs.{declared.{command.Command.{Command}, reply.Reply.{Reply, TheVariants.{Refused}}}, Runs.{Moves, Runs, Goes, plain_reply}, State.{State, Hashing, hashing}, Table.{piece, after, opening}, Promises.{Faulted, Faults}, Common.{fails}, Storing.{persist, write_rest}}
+use Rattle.cacache_calls.proofs.{EarnedErrors.{io_errors_have_causes}, Going.{goes_lost, cond_leads}}
+use Rattle.cacache_value.{specs.{Placed.{LieApart}, Value.{value_of_tree}}, proofs.Traces.{traces_act}}
 use Rattle.cacache_history.specs.{Setup.{Setup, call_site, home}, History.{Turn, turn_of}, Turns.{made_in, EachTurn}, Commits.{deeds}}
-use Rattle.cacache_history.proofs.{Entries.Bucketed.{KeyedTurn}, Histories.{Holding.{CallHolds, TurnsHold, begins_hold, moved_holds}, Runs.{memory_plain}, TurnReplies.{reads_value}}, Contents.Commits.{cases, plain_refused}, durable.CommitPlaces.{goes_runs}, Each.{each_join}}
+use Rattle.cacache_history.proofs.{Entries.Bucketed.{KeyedTurn}, Histories.{Holding.{CallHolds, TurnsHold, begins_hold, moved_holds}, Places.{memory_plain}, TurnReplies.{reads_value}}, Contents.Commits.{cases, plain_refused}, durable.CommitPlaces.{goes_runs}, Each.{each_join}}
 use Rattle.cacache_laws.specs.{Sequence.{tree_on, turns_on, AreAnswered, plain_moves, IsSound}, InParts.{Part, made, took, byte_read, moves_in, turns_in, AreParts, Begun, with_part, IsOnItsWay, Changes, AnswersInParts, LogsLead, CallsBegin, PartsGoOn, LeftAreCases, PartsAnswer, ReadsAreParts, WritesAreParts}}
 use Rattle.cacache_laws.proofs.{Readings.Looks.{found_before}, Calls.{Replays.{replay_more, replayable_rest, moves_lead, moves_answered}, Sequence.{alone, on_its_way, run_ends, turns_made, moves_after, RunHolds, run_holds, moves_follow, holds_alone, keeps_alone, sound_alone}}}
 use Rattle.cacache_store.specs.declared.store.step.Step.TheVariants as steps

@@ -1,16 +1,16 @@
 -- Calls in sequence: each keeps what holds of the tree, and answers by it.
 use Rattle.std.{proofs.Common.{rules, ◌≡◌, inl, inr, List, [], ◌∷◌, ◌++◌, Option, None, Some, refl, sym, ap, subst, ◌∙◌, append-nil, append_assoc}, specs.Prelude.{map}}
 use Rattle.cacache_store.specs.declared.store.log.LogItem.{LogItem, TheVariants.{Made}}
-use Rattle.cacache_disk.specs.{declared.luck.Luck.TheVariants.{Plain}, Tree.{Tree, bare}, Apply.{apply}, memory.Replay.{replay, IsReplayable, tree_of, IsLog}}
+use Rattle.cacache_disk.specs.{declared.luck.Luck.TheVariants.{Plain}, Tree.{Tree, bare}, Apply.{apply}, Replay.{replay, IsReplayable, tree_of, IsLog}}
 use Rattle.cacache_calls.specs.{declared.reply.Reply.{Reply}, Runs.{Moves, Runs, plain_reply}, Sound.{MayBegin}, State.{State}, Table.{after, opening}}
 use Rattle.cacache_calls.proofs.EarnedErrors.{io_errors_have_causes}
-use Rattle.cacache_value.specs.{OpeningTrees.{LieApart}, Traces.{IsTrace, tree_after, acts}, Value.{wide_value, cache_part, value_of_tree}}
+use Rattle.cacache_value.specs.{Placed.{LieApart}, Acts.{IsTrace, tree_after, acts}, Value.{wide_value, cache_part, value_of_tree}}
 use Rattle.cacache_value.proofs.{OpeningTrees.{files_open}, Traces.{traces_act}}
 use Rattle.cacache_history.specs.{Setup.{Setup, call_site, home, may_export, is_outside}, History.{Now, Ends, MayMove, NamesIntegrity, new_call, call_after, turn_of}, Turns.{made_in, EachTurn}, Commits.{deeds}}
-use Rattle.cacache_history.proofs.{Entries.{Bucketed.{Keeps, KeyedTurn, move_keyed}, Formed.{opening_formed}, Keyed.{opening_keyed}, Owned.{opening_own}}, Histories.{Holding.{AllHold, CallHolds, TurnsHold, begins_hold, moved_holds, made_proper, tree_holds}, Runs.{memory_plain}, TurnReplies.{reads_value}}, Contents.{Carrying.{own_of, Makes}, Righted.{opening_right}, Commits.{cases, plain_refused}}}
+use Rattle.cacache_history.proofs.{Entries.{Bucketed.{Keeps, KeyedTurn, move_keyed, opening_keyed}, Spelled.{opening_formed}, Owned.{opening_own}}, Histories.{Holding.{AllHold, CallHolds, TurnsHold, begins_hold, moved_holds, made_proper, tree_holds}, Places.{memory_plain}, TurnReplies.{reads_value}}, Contents.{Carrying.{own_of, Makes}, Righted.{opening_right}, Commits.{cases, plain_refused}}}
 use Rattle.cacache_history.specs.History as histories
 use Rattle.cacache_laws.specs.Sequence.{SequenceCall, AreMade, MayBeMade, planted_log, tree_on, turns_on, AreAnswered, plain_moves, Alike, after_deeds, CallIsAnswered, IsSound, AllAnswer, RunsAreCalls, OpeningsAreSound, CallsAreAnswered, SequencesAnswer}
-use Rattle.cacache_laws.proofs.{Calls.{Alike.{moves_alike}, Replays.{replay_more, replayable_rest, moves_lead, moves_answered, files_lead, calls_lengthen}}, Readings.Looks.{found_before}, Putting.Persisting.{puts_find_nothing}}
+use Rattle.cacache_laws.proofs.{Calls.Replays.{moves_alike, replay_more, replayable_rest, moves_lead, moves_answered, files_lead, calls_lengthen}, Readings.Looks.{found_before}, Putting.Persisting.{puts_find_nothing}}
 
 -- the moves of a run, as those of a call
 pub runs_are_calls : RunsAreCalls

@@ -1,21 +1,21 @@
 -- The bytes of a content are at the path where a copy of it went.
 use Rattle.std.proofs.{lemmas.{Grind.{common_steps}, List.Elements.{All-head}}, Common.{rules, ◌≡◌, inl, inr, ℕ, Bool, true, false, cond, List, [], ◌∷◌, Option, None, Some, Result, Ok, Err, length, option_map, refl, sym, ap, subst, ◌∙◌, arith}}
-use Rattle.cacache_core.specs.{declared.{errors.{Error.{Error, TheVariants.{IntegrityError, IoError}}, Fault.{Fault}, IntegrityFault.TheVariants.{Check}}, integrity.digest.Hash.{Hash}}, Integrity.{IsHash, IsIntegrity, Meets, actual}, Meeting.{meets}, PathNames.{Names, home_of, names_below, names_of}, Paths.{content_names, bucket_names_of}}
+use Rattle.cacache_core.specs.{declared.{errors.{Error.{Error, TheVariants.{IntegrityError, IoError}}, Fault.{Fault}, IntegrityFault.TheVariants.{Check}}, integrity.digest.Hash.{Hash}}, Integrity.{IsHash, IsIntegrity, Meets, actual}, Matching.{meets}, Paths.{Names, home_of, names_below, names_of, content_names, bucket_names_of}}
 use Rattle.cacache_core.proofs.Meeting.{meets_finds}
 use Rattle.sha1.specs.Sha1.{sha1}
 use Rattle.cacache_core.specs.declared.errors.Fault.TheVariants as faults
 use Rattle.cacache_store.specs.declared.store.answer.Answer.TheVariants as answers
 use Rattle.cacache_store.specs.declared.store.log.LogItem.{LogItem}
 use Rattle.cacache_store.specs.declared.store.step.Step.TheVariants as steps
-use Rattle.cacache_disk.specs.{declared.luck.Luck.TheVariants.{Plain}, Apply.{apply}, LedTo.{writable}, Tree.{Tree}, memory.Replay.{tree_of}}
-use Rattle.cacache_entry.specs.Latest.{Found}
+use Rattle.cacache_disk.specs.{declared.luck.Luck.TheVariants.{Plain}, Apply.{apply}, LedTo.{writable}, Tree.{Tree}, Replay.{tree_of}}
+use Rattle.cacache_entry.specs.Bucket.{Found}
 use Rattle.cacache_calls.specs.declared.carried.Aim.TheVariants as aims
 use Rattle.cacache_calls.specs.declared.command.Source.TheVariants as sources
-use Rattle.cacache_calls.specs.{declared.{carried.Content.{Content}, command.{Export.{Export}, How.TheVariants.{Copy}, Source.{Source}}, reply.Reply.{Reply, TheVariants.{Copied, Refused}}}, Exporting.{export, export_content}, State.{copying, looking, opening_file, over, to_verify}, StepPaths.{bucket_path, content_path}, Table.{opening}}
-use Rattle.cacache_calls.proofs.Branches.{cond_leads}
+use Rattle.cacache_calls.specs.{declared.{carried.Content.{Content}, command.{Export.{Export}, How.TheVariants.{Copy}, Source.{Source}}, reply.Reply.{Reply, TheVariants.{Copied, Refused}}}, Reading.{export, export_content}, State.{copying, looking, opening_file, over, to_verify}, Steps.{bucket_path, content_path}, Table.{opening}}
+use Rattle.cacache_calls.proofs.Going.{cond_leads}
 use Rattle.cacache_value.specs.{Shows.{blob_bytes}, Value.{Blob}}
 use Rattle.cacache_history.{specs.History.{NamesSource}, proofs.Histories.ShownTurns.{bucket_below, content_below}}
-use Rattle.cacache_laws.specs.{Caches.{Called, IsCache, lies_under, setup_at}, ExportAnswers.{blob_read, export_reply, exported_reply, led_reply, made_reply, or_told, verified_reply}, ExportEffects.{copy_from}, Keeping.{found_under}, results.Exports.{HasArrived, NamesHeld}}
+use Rattle.cacache_laws.specs.{Caches.{Called, IsCache, lies_under, setup_at}, ExportAnswers.{blob_read, export_reply, exported_reply, led_reply, made_reply, or_told, verified_reply}, ExportEffects.{export_by}, Beside.{found_under}, results.Exports.{HasArrived, NamesHeld}}
 use Rattle.cacache_laws.proofs.{Links.Linking.{nowhere}, Sure.{SureExports.{exports_told, read_too}, SureReads.{opens_as, told_all}, SureRuns.{EndsSo, ends, goes, of_log}}}
 
 -- ---- what a count says
@@ -75,19 +75,19 @@ module _ (cache to : List ℕ) (checked : Bool) (none : home_of cache ≡ None) 
       goes NoCount t t (looking (record { cache = cache; key = key; aim = aims.Export asked })) (steps.ReadAll path) (answers.Failed faults.InvalidInput) refl
       (told_all t path (Err faults.InvalidInput) (nowhere t path faults.InvalidInput faults.IsADirectory below)) (stopped (IoError faults.InvalidInput []))
 
-  by_source : (base : List ℕ) (number : ℕ) (source : Source) → NamesSource source → EndsSo NoCount t (opening (record { cache = cache; base = base; number = number }) (copy_from source checked to))
+  by_source : (base : List ℕ) (number : ℕ) (source : Source) → NamesSource source → EndsSo NoCount t (opening (record { cache = cache; base = base; number = number }) (export_by Copy source checked to))
   by_source base number source formed = grind (arith, by_hash, by_key)
 
 -- ---- a copy
 
 -- one that answered a count left what lies under the integrity that its source leads to
 pub has_arrived : (cache to : List ℕ) (source : Source) (checked : Bool) (n : ℕ) (old new : List LogItem) → NamesSource source → IsCache cache old
-    → Called cache (copy_from source checked to) (Copied n) old new → HasArrived cache source checked to n old new
+    → Called cache (export_by Copy source checked to) (Copied n) old new → HasArrived cache source checked to n old new
 has_arrived cache to source checked n old new formed sound c = by (home_of cache) refl
   where
     by : (home : Option Names) → home_of cache ≡ home → HasArrived cache source checked to n old new
     by None is =
-        let s = opening (record { cache = cache; base = c.base; number = c.number }) (copy_from source checked to) in
+        let s = opening (record { cache = cache; base = c.base; number = c.number }) (export_by Copy source checked to) in
         elim (of_log (NoCount cache to checked is (tree_of old)) s (Copied n) old new (by_source cache to checked is (tree_of old) c.base c.number source formed) c.ran c.logged) [ inl e ↦ absurd cc | inr never ↦ absurd never ]
     by (Some home) is =
         let e : Export = record { how = Copy; checked = checked; to = to } in

@@ -1,19 +1,19 @@
 -- An export to a path apart from the cache leaves what the cache holds.
 use Rattle.std.proofs.{Common.{arith, rules, ◌≡◌, ℕ, Bool, true, false, cond, List, [], ◌∷◌, ◌++◌, Option, None, Some, Result, Ok, Err, refl, sym, ap, subst, ◌∙◌}, lemmas.{Grind.{common_steps}, Bool.{and_from}}}
 use Rattle.std.specs.Prelude.{IfOk, bytes_eq}
-use Rattle.cacache_core.specs.{Paths.{content_area, index_area, temp_area}, declared.errors.Fault.{Fault}, PathNames.{Names, names_of, home_of}}
+use Rattle.cacache_calls.specs.{declared.{command.{Export.{Export}, Source.{Source}}, reply.Reply.{Reply}}, Runs.{Goes}, Table.{opening}}
+use Rattle.cacache_store.specs.{declared.store.log.LogItem.{LogItem}, Plain.{PlainStep, PlainAnswer}}
+use Rattle.cacache_laws.specs.{Caches.{Called, IsCache, setup_at}, Beside.{StaysKnown}, ExportEffects.{IsApart}, Sequence.{Alike, turns_on, after_deeds}}
+use Rattle.cacache_laws.proofs.{Putting.Deeds.{stays_known}, Readings.Known.{known}, Calls.{InParts.{run_goes}, Sequence.{turns_made}}}
+use Rattle.cacache_history.specs.{History.{NamesIntegrity, Turn}, Setup.{may_export, call_site, apart_from_home, are_apart, may_take}, Turns.{EachTurn, made_in}, Commits.{Deed, deeds, deeds_of_act, finds_in}, ReadingCalls.{TurnDoesNothing}}
+use Rattle.cacache_history.proofs.Histories.ReadingCalls.{readings_do_nothing}
+use Rattle.cacache_core.specs.{Paths.{content_area, index_area, temp_area, Names, names_of, home_of}, declared.errors.Fault.{Fault}}
 use Rattle.cacache_store.specs.declared.store.answer.Answer.TheVariants as answers
 use Rattle.cacache_store.specs.declared.store.step.Step.TheVariants as steps
-use Rattle.cacache_store.specs.Plain.{PlainStep, PlainAnswer}
-use Rattle.cacache_disk.specs.memory.Replay.{tree_of}
+use Rattle.cacache_disk.specs.Replay.{tree_of}
 use Rattle.cacache_calls.specs.declared.command.Command.TheVariants as commands
-use Rattle.cacache_calls.specs.{Runs.{Goes}, Table.{opening}}
 use Rattle.cacache_value.specs.{Kinds.{PathKind, Content as OfContent, Bucket, Temporary, Stray, Elsewhere, IsFor, kind_in_area, kind_beside, path_kind}, Value.{Value, value_of_tree}}
-use Rattle.cacache_value.proofs.KindsApart.{kind_in_used}
-use Rattle.cacache_history.specs.{Setup.{may_export, call_site, apart_from_home, are_apart, may_take}, History.{Turn}, Turns.{EachTurn, made_in}, Commits.{Deed, deeds, deeds_of_act, finds_in}, ReadingCalls.{TurnDoesNothing}}
-use Rattle.cacache_history.proofs.Histories.ReadingCalls.{readings_do_nothing}
-use Rattle.cacache_laws.specs.{Sequence.{Alike, turns_on, after_deeds}, Caches.{setup_at}, ExportEffects.{ExportsKeep}}
-use Rattle.cacache_laws.proofs.{Putting.Deeds.{stays_known}, Readings.Known.{known}, Calls.{InParts.{run_goes}, Sequence.{turns_made}}}
+use Rattle.cacache_value.proofs.PathKinds.{kind_in_used}
 
 -- ---- turns that do nothing
 
@@ -46,7 +46,10 @@ home_apart folder path e = grind (arith, beside)
 pub exports_apart : (cache base to : List ℕ) → IsFor (home_of cache) Elsewhere to → may_export (setup_at cache base) to ≡ true
 exports_apart cache base to for = search (rules, home_apart)
 
-pub exports_keep : ExportsKeep
+-- an export to a path apart from the cache leaves a cache, and all that was known of it still holds
+pub exports_keep : (cache : List ℕ) (source : Source) (e : Export) (r : Reply) (old new : List LogItem) → IsApart cache e.to
+    → NamesIntegrity (commands.Export source e) → IsCache cache old → Called cache (commands.Export source e) r old new → IsCache cache new
+    × StaysKnown cache old new
 exports_keep cache source e r old new for named sound c =
     let command = commands.Export source e in
     let k = known cache command r old new c (exports_apart cache c.base e.to for) named sound in

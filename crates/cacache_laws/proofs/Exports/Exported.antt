@@ -1,16 +1,16 @@
 -- Each export of bytes that are there leaves them at its path, or fails for a step of its own or for memory.
-use Rattle.std.proofs.Common.{arith, ◌≡◌, inl, inr, ℕ, Bool, true, List, Option, None, Some, option_map, Result, Ok, Err, length, refl, sym, ap, subst, ◌∙◌}
-use Rattle.cacache_core.specs.{declared.{errors.Fault.{Fault}, integrity.digest.Hash.{Hash}}, PathNames.{Names, home_of}, Integrity.{address}}
+use Rattle.std.proofs.Common.{arith, ◌≡◌, inl, inr, ℕ, Bool, List, Option, None, Some, option_map, Result, Ok, Err, length, refl, sym, ap, subst, ◌∙◌}
+use Rattle.cacache_laws.specs.{ExportEffects.{NamesBytes, IsApart, Arrives, export_by}, CallErrors.{FailsOnly}, Caches.{IsCache, HasContent, HasKey, Called}, Inserts.{leads_to}, ExportAnswers.{exported_reply, made_reply, or_told}, results.Exports.{NamesHeld}}
+use Rattle.cacache_laws.proofs.{Exports.ExportEffects.{exports_apart}, Readings.Known.{Known, excuse, known}, Sure.{SureExports.{Shows, Told, by_held, exports_told}, SureCopies.{passes}}}
+use Rattle.cacache_core.specs.{declared.{errors.Fault.{Fault}, integrity.digest.Hash.{Hash}}, Paths.{Names, home_of}, Integrity.{address}}
 use Rattle.cacache_store.specs.declared.store.log.LogItem.{LogItem}
-use Rattle.cacache_disk.specs.{Tree.{Tree}, LedTo.{free, writable}, memory.Replay.{shown, tree_of}}
-use Rattle.cacache_calls.specs.{declared.{command.{Export.{Export}, How.{How, TheVariants.{Copy, Reflink, HardLink}}, Source.{Source}}, reply.Reply.{Reply}}, Replies.{OrMemory}, Verifying.{CountsAs}}
+use Rattle.cacache_disk.specs.{Tree.{Tree}, LedTo.{free, writable}, Replay.{shown, tree_of}}
+use Rattle.cacache_calls.specs.{declared.{command.{Export.{Export}, How.{How, TheVariants.{Copy, Reflink, HardLink}}, Source.{Source}}, reply.Reply.{Reply}}, Replies.{OrMemory}}
 use Rattle.cacache_calls.specs.declared.command.Source.TheVariants as sources
 use Rattle.cacache_calls.specs.declared.reply.Reply.TheVariants as replies
 use Rattle.cacache_value.specs.Value.{InFile, value_of_tree}
-use Rattle.cacache_history.specs.{History.{NamesSource}, ShownTurns.{blob_at}}
-use Rattle.cacache_entry.specs.Latest.{Found}
-use Rattle.cacache_laws.specs.{CallErrors.{FailsOnly}, Caches.{IsCache, HasContent, HasKey, Called}, Inserts.{leads_to}, ExportAnswers.{exported_reply, made_reply, or_told}, Exported.{Arrives, ExportsArrive, export_by}, ExportEffects.{CopiesArrive, CopiesCount}, results.Exports.{NamesHeld}}
-use Rattle.cacache_laws.proofs.{Exports.ExportEffects.{exports_apart}, Readings.Known.{Known, excuse, known}, Sure.{SureExports.{Shows, Told, by_held, exports_told}, SureCopies.{passes}}}
+use Rattle.cacache_history.specs.{History.{NamesSource}, Turns.{blob_at}}
+use Rattle.cacache_entry.specs.Bucket.{Found}
 
 -- how an export of these bytes may end
 abbrev Ends : List ℕ → List ℕ → Tree → Reply → Type 0
@@ -65,21 +65,13 @@ key_leads cache key i bytes log has = ap (option_map (λ (f : Found). f.integrit
 arrives_so : (cache base bytes to : List ℕ) (how : How) (source : Source) (checked : Bool) (r : Reply) (old new : List LogItem) → Known cache base (export_by how source checked to) r old new → Ends bytes to (tree_of new) r → Arrives bytes to r old new
 arrives_so cache base bytes to how source checked r old new k h = grind (arith, excuse)
 
-pub exports_arrive : ExportsArrive
+-- an export of bytes that are there, to a path apart from the cache, fails only for a step of its own or for memory
+pub exports_arrive : (cache bytes to : List ℕ) (how : How) (source : Source) (checked : Bool) (r : Reply) (old new : List LogItem)
+    → IsApart cache to → IsCache cache old → NamesBytes cache source bytes old → Called cache (export_by how source checked to) r old new
+    → Arrives bytes to r old new
 exports_arrive cache bytes to how (sources.Hash i) checked r old new apart sound has c =
     arrives_so cache c.base bytes to how (sources.Hash i) checked r old new (known cache (export_by how (sources.Hash i) checked to) r old new c (exports_apart cache c.base to apart) has.formed sound)
     (ends cache bytes to i how (sources.Hash i) checked r old new sound refl has has.formed c)
 exports_arrive cache bytes to how (sources.Key key) checked r old new apart sound has c =
     arrives_so cache c.base bytes to how (sources.Key key) checked r old new (known cache (export_by how (sources.Key key) checked to) r old new c (exports_apart cache c.base to apart) tt sound)
     (ends cache bytes to has.0 how (sources.Key key) checked r old new sound (key_leads cache key has.0 bytes old has.1) has.1.content tt c)
-
--- a copy is one of them
-pub copies_arrive : CopiesArrive
-copies_arrive cache bytes to source checked n old new apart sound has c = exports_arrive cache bytes to Copy source checked (replies.Copied n) old new apart sound has c
-
-pub copies_count : CopiesCount
-copies_count cache bytes to i r old new apart sound has c = by r (exports_arrive cache bytes to Copy (sources.Hash i) true r old new apart sound has c)
-  where
-    by : (q : Reply) → Arrives bytes to q old new → CountsAs bytes q
-    by (replies.Copied n) h = h.1
-    by other h = tt

@@ -1,13 +1,108 @@
--- A content stays at its address while each call spares it, so a collection keeps what its listing names.
-use Rattle.std.proofs.{lemmas.{Grind.{common_steps}, List.Elements.{All-head}}, Common.{◌≡◌, inl, inr, ◌≤◌, ◌+◌, ◌-◌, ℕ, zero, suc, List, [], ◌∷◌, Option, None, Some, take, drop, refl, sym, subst, ◌∙◌, take-append-drop, arith}}
+-- What a listing names, and the contents that stay while other calls spare them.
+use Rattle.std.proofs.{Common.{◌≡◌, inl, inr, ℕ, List, [], ◌∷◌, Some, Ok, Err, map, refl, sym, ap, subst, ◌∙◌, ◌==◌, cond, eq-eqb, ◌++◌, Option, None, append-nil, ◌≤◌, ◌+◌, ◌-◌, zero, suc, take, drop, take-append-drop, arith}, lemmas.{List.Elements.{All-head}, Grind.{common_steps}}}
 use Rattle.std.specs.Prelude.{IfSome, slice_get}
 use Rattle.sha1.specs.Sha1.{sha1}
-use Rattle.cacache_core.specs.{declared.integrity.digest.Hash.{Hash}, Integrity.{IsHash, IsIntegrity, address}}
-use Rattle.cacache_entry.specs.Latest.{Found}
-use Rattle.cacache_value.specs.Value.{Blob, InFile, AtLink}
-use Rattle.cacache_history.specs.{declared.record.Record.{Record, TheVariants.{Moved}}, AddedEntries.{IsContentOf}, History.{History, Call, IsLegal}, Lookups.{lookup_at}, Places.{MoveAt, now_before}, Setup.{home}, Values.{steps_of, value_at, KeepContent, IsThere, HasDigest, bucket_at}}
-use Rattle.cacache_history.proofs.{Entries.{Lookups.{lookups_stay}, Spelled.{latest_has}}, Histories.{Holding.{held_at}, Places.{split_at, at_place}, Values.{contents_are_right, contents_stay}}}
-use Rattle.cacache_laws.{specs.Meanwhile.{AllSpare, CollectionsKeep, HoldsContent, SparesAddress}, proofs.Interleaved.{NamedEntries.{listings_name}, SparedContents.{move_keeps}}}
+use Rattle.cacache_core.specs.{declared.{errors.Error.TheVariants.{OutOfMemory}, integrity.digest.Hash.{Hash}}, Integrity.{IsHash, IsIntegrity, address}, Paths.{Names, names_below, names_of, content_names}}
+use Rattle.cacache_entry.specs.Bucket.{Found, latest}
+use Rattle.cacache_calls.specs.{declared.reply.Reply.TheVariants.{Listed, Refused}, Replies.{In}, Runs.{plain_item, plain_reply}, State.{Item}, Steps.{content_path}}
+use Rattle.cacache_value.specs.{Acts.{list_of}, Value.{value_of_tree, blob_in, Blob, InFile, AtLink}, Kinds.{node_below}}
+use Rattle.cacache_history.specs.{History.{History, Turn, Call, IsLegal, Reaches, Legal, Now, initial, new_call, now_after, now_at, replayed}, ListingTurns.{TurnsGive, TurnsList, is_past, listing_of}, Places.{TurnIn, MoveAt, now_before}, Setup.{home, Setup}, Turns.{EachTurn}, declared.record.Record.{Record, TheVariants.{Moved}}, Values.{IsThere, steps_of, value_at, KeepContent, HasDigest, bucket_at}, AddedEntries.{IsContentOf}, Lookups.{lookup_at}}
+use Rattle.cacache_history.proofs.{Each.{each_weaker}, Histories.{PlacedAnswers.{reaches_in}, Places.{turns_are_own, reached, split_at, at_place}, Holding.{held_at, replay_more}, ShownTurns.{content_below}, Values.{contents_are_right, contents_stay}}, Listings.ListingTurns.{listings_read_value}, Entries.{Lookups.{lookups_stay}, Spelled.{latest_has}}}
+use Rattle.cacache_laws.specs.{ListedKeys.{AreAllFound}, Meanwhile.{LeadsWhile, ListsAllIn, ListingsName, RemovalsMayCome, removal_of, AllSpare, CollectionsKeep, HoldsContent, SparesAddress}}
+use Rattle.cacache_laws.proofs.{Listings.{ListedKeys.{unless_past}, ListedTurns.{TurnFinds, has_bucket, turns_list}}, Sure.SureRuns.{place_at}, Interleaved.SparedContents.{move_keeps}}
+use Rattle.cacache_store.specs.Plain.{PlainStep, PlainAnswer}
+use Rattle.cacache_disk.specs.{declared.{luck.Luck.TheVariants.{Plain}, node.Node.{Node, TheVariants.{Folder}}}, Apply.{apply}, LedTo.{removable}, Tree.{Rooted, Tree, cut, look}}
+use Rattle.cacache_disk.proofs.{PutNodes.{look-cut}, Roots.{same_self}}
+use Rattle.cacache_store.specs.declared.store.step.Step.TheVariants as steps
+use Rattle.cacache_store.specs.declared.store.answer.Answer.TheVariants as answers
+use Rattle.cacache_calls.specs.declared.command.Command.TheVariants as commands
+
+-- entries have no messages
+plain_found : (items : List Item) → AreAllFound items → map plain_item items ≡ items
+plain_found [] h = refl
+plain_found (Ok f ∷ items) h = ap (λ l. Ok f ∷ l) (plain_found items h)
+plain_found (Err e ∷ items) h = absurd h
+
+module _ (h : History) (legal : IsLegal h) (m n caller : ℕ) (call : Call) (items : List Item) (key : List ℕ) (found : Found) (lists : ListsAllIn h m n caller call items) (leads : LeadsWhile h m n key found) where
+  reaches : Reaches h call (Some (Listed items))
+  reaches = reaches_in h m n caller call (Some (Listed items)) lists.answered
+
+  turn_finds : (turn : Turn) → TurnIn h m n caller turn → TurnFinds h.setup key found turn
+  turn_finds turn t = ap (λ (u : Turn). latest key (list_of ((value_of_tree (home h.setup) u.place).buckets (sha1 key)))) t.turn_is ∙ leads t.place t.from t.to
+
+  finds : EachTurn (TurnFinds h.setup key found) call.turns
+  finds = each_weaker (TurnIn h m n caller) (TurnFinds h.setup key found) turn_finds call.turns (turns_are_own h m n caller call (Some (Listed items)) lists.answered)
+
+  named : (its : List Item) → TurnsGive h.setup call.turns its → TurnsList h.setup call.turns its (plain_reply (Listed items)) → In (Ok found) items
+  named its gives t =
+      let answers : Listed (map plain_item items) ≡ Listed (listing_of call.turns its) = t.answers in
+      let plain : map plain_item items ≡ listing_of call.turns its = cc in
+      let same : items ≡ listing_of call.turns its = sym (plain_found items lists.all) ∙ plain in
+      let hold = (reached h legal call (Some (Listed items)) reaches).holds.turns in
+      subst (In (Ok found)) (sym same)
+      (unless_past (In (Ok found)) (is_past call.turns its) its
+      (λ near all. turns_list h.setup key found call.turns its hold finds gives all (t.finds near key (has_bucket h.setup key found call.turns finds)))
+      (subst AreAllFound same lists.all))
+
+pub listings_name : ListingsName
+listings_name h legal m n caller call items key found lists leads =
+    let r = reaches h legal m n caller call items key found lists leads in
+    let v = listings_read_value h legal call (Some (Listed items)) r lists.command_is in
+    elim v.4 [
+      | inl lost ↦ (let no : Listed items ≡ Refused OutOfMemory = lost in absurd cc)
+      | inr t ↦ named h legal m n caller call items key found lists leads v.0 v.1 t
+    ]
+
+-- ---- a removal of a content that is there may come next in each legal history, and then the content is gone
+
+-- what is there is removed
+gone_at : (t : Tree) (path : List ℕ) (names : Names) (here : Option Node) → Rooted t → names_of path ≡ Ok names → look t names ≡ here → IsThere (blob_in here) → apply t (steps.RemoveFile path) Plain ≡ (answers.Done, cut t names)
+unfolding apply removable
+gone_at t path names None rooted is e there = absurd there
+gone_at t path names (Some Folder) rooted is e there = absurd there
+gone_at t path names (Some node) rooted is e there = rw (place_at t path names node rooted is e, e) refl
+
+legal_join : (s : Setup) (w : Now) (past records : List Record) → Legal s w past → Legal s (replayed s w past) records → Legal s w (past ++ records)
+legal_join s w [] records old legal = legal
+legal_join s w (r ∷ past) records old legal = (old.0, legal_join s (now_after s w r) past records old.1 legal)
+
+module _ (h : History) (legal : IsLegal h) (a : Hash) (hs : List Hash) where
+  abbrev now : Now
+  now = now_at h h.records
+
+  abbrev step : PlainStep
+  step = steps.RemoveFile (content_path h.setup.cache (a ∷ hs))
+
+  -- the removal is done, and leaves no content there
+  abbrev Removes : Option Names → Type 0
+  Removes folder = ((apply now.tree step Plain).0 ≡ answers.Done) × (blob_in (node_below folder (apply now.tree step Plain).1 (content_names a)) ≡ None)
+
+  by_home : (folder : Option Names) → names_of (content_path h.setup.cache (a ∷ hs)) ≡ names_below folder (content_names a) → IsThere (blob_in (node_below folder now.tree (content_names a))) → Removes folder
+  by_home None named there = absurd there
+  by_home (Some folder) named there =
+      let names = folder ++ content_names a in
+      let held = held_at h legal h.records [] (sym (append-nil h.records)) in
+      let is = gone_at now.tree (content_path h.setup.cache (a ∷ hs)) names (look now.tree names) held.rooted named refl there in (
+        ap (λ (r : PlainAnswer × Tree). r.0) is,
+        ap (λ (r : PlainAnswer × Tree). blob_in (look r.1 names)) is
+            ∙ ap blob_in (look-cut now.tree names names ∙ ap (λ b. cond b None (look now.tree names)) (same_self names)),
+      )
+
+pub removals_may_come : RemovalsMayCome
+removals_may_come h legal caller a hs known idle formed there =
+    let s = h.setup in
+    let now = now_at h h.records in
+    let records = removal_of h caller (a ∷ hs) in
+    let call = new_call s now.begun (commands.RemoveHash (a ∷ hs)) in
+    let done = by_home h legal a hs (home h.setup) (content_below s a hs (All-head IsHash a hs formed.hashes)) there in
+    let has : cond (caller == caller) (Some call) (now.calls caller) ≡ Some call = ap (λ b. cond b (Some call) (now.calls caller)) (eq-eqb caller caller refl) in (
+      record {
+        apart = legal.apart;
+        opens = legal.opens;
+        legal = legal_join s (initial s) h.records records legal.legal ((known, idle, tt, formed), ((call, has, (refl, sym done.0, tt, inl refl)), tt));
+      },
+      ap (λ (w : Now). blob_in (node_below (home h.setup) w.tree (content_names a))) (replay_more s (initial s) h.records records) ∙ done.1,
+    )
 
 -- ---- contents
 

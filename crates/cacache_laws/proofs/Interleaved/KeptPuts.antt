@@ -1,14 +1,14 @@
 -- The content of a put that answered is there while each call since the put began spares it.
 use Rattle.std.proofs.Common.{◌≡◌, inl, inr, ◌≤◌, ℕ, suc, true, cond, List, [], ◌∷◌, ◌++◌, Some, Ok, take, drop, refl, sym, ap, subst, ◌∙◌, take-append-drop, arith}
 use Rattle.std.specs.Prelude.{slice_get}
-use Rattle.cacache_core.specs.{declared.integrity.digest.Hash.{Hash}, Integrity.{IsHash}, PathNames.{Names, names_of}, Paths.{content_names}}
+use Rattle.cacache_core.specs.{declared.integrity.digest.Hash.{Hash}, Integrity.{IsHash}, Paths.{Names, names_of, content_names}}
 use Rattle.cacache_store.specs.declared.store.step.Step.TheVariants as steps
 use Rattle.cacache_store.specs.declared.store.answer.Answer.TheVariants as answers
 use Rattle.cacache_store.specs.Plain.{PlainStep, PlainAnswer}
-use Rattle.cacache_calls.specs.{Answers.{there_in}, declared.{command.Put.{Put}, reply.Reply.TheVariants.{Stored}}, StepPaths.{content_path}, Storing.{put_commit}}
+use Rattle.cacache_calls.specs.{Answers.{there_in}, declared.{command.Put.{Put}, reply.Reply.TheVariants.{Stored}}, Steps.{content_path}, Storing.{put_commit}}
 use Rattle.cacache_value.specs.{Acts.{Act, AddEntries, Drop, PutBytes, PutLink, act_of, change}, Shows.{blob_there}, Value.{InFile, Value, value_of_tree}}
-use Rattle.cacache_history.specs.{declared.record.Record.TheVariants.{Moved}, AddedEntries.{IsAmong, address_of_put}, Commits.{Deed, does, finds, finds_in, deeds_of_act, deeds_of, deeds, PutsContent, CommitsAs, IsCase}, History.{History, Turn, IsLegal}, Places.{TurnIn}, Setup.{Setup, call_site, home}, ShownTurns.{content_at, unless_failed}, Turns.{EachTurn}, Values.{IsThere, acted, opening_value, value_at}}
-use Rattle.cacache_history.proofs.{Contents.{Commits.{commits_are_cases}, Digests.{digest_hash}}, Entries.AddedEntries.{act_is, acts_last, blob_is, either, not_found}, Histories.{Holding.{TurnHolds, TurnsHold}, PlacedAnswers.{reaches_in}, Places.{split_at, turns_are_own}, Runs.{reached}, ShownTurns.{content_below, there_at}, Values.{value_follows_acts}}}
+use Rattle.cacache_history.specs.{declared.record.Record.TheVariants.{Moved}, AddedEntries.{IsAmong, address_of_put}, Commits.{Deed, does, finds, finds_in, deeds_of_act, deeds_of, deeds, PutsContent, CommitsAs, IsCase}, History.{History, Turn, IsLegal}, Places.{TurnIn}, Setup.{Setup, call_site, home}, Turns.{content_at, unless_failed, EachTurn}, Values.{IsThere, acted, opening_value, value_at}}
+use Rattle.cacache_history.proofs.{Contents.{Commits.{commits_are_cases}, Digests.{digest_hash}}, Entries.AddedEntries.{act_is, acts_last, blob_is, either, not_found}, Histories.{Holding.{TurnHolds, TurnsHold}, PlacedAnswers.{reaches_in}, Places.{split_at, turns_are_own, reached}, ShownTurns.{content_below, there_at}, Values.{value_follows_acts}}}
 use Rattle.cacache_laws.{specs.Meanwhile.{AllSpare, HoldsContent, PutsKeep}, proofs.{Interleaved.KeptContents.{Here, right_here, stays_here}, Putting.Stored.{below_is}}}
 
 -- the turn that did it

@@ -2,19 +2,19 @@
 use Rattle.std.proofs.{lemmas.{Grind.{common_steps}, List.Elements.{All-head}}, Common.{rules, ◌≡◌, inl, inr, ℕ, true, false, List, [], ◌∷◌, ◌++◌, Option, Some, Ok, refl, sym, ap, subst, ◌∙◌, arith}}
 use Rattle.std.specs.{Prelude.{slice_get}, List.{AllByRecursion}}
 use Rattle.sha1.specs.Sha1.{sha1}
-use Rattle.cacache_core.specs.{declared.{integrity.digest.Hash.{Hash}, errors.Error.TheVariants.{OutOfMemory}}, Integrity.{IsHash, IsIntegrity, address}, PathNames.{Names, names_of}, Paths.{joined, content_names, bucket_names_of}}
-use Rattle.cacache_core.proofs.PathTexts.{paths_differ}
+use Rattle.cacache_core.specs.{declared.{integrity.digest.Hash.{Hash}, errors.Error.TheVariants.{OutOfMemory}}, Integrity.{IsHash, IsIntegrity, address}, Paths.{Names, names_of, joined, content_names}}
+use Rattle.cacache_core.proofs.{PathTexts.{paths_differ}, ProperNames.{not_true}}
 use Rattle.cacache_store.specs.declared.store.step.Step.TheVariants as steps
 use Rattle.cacache_store.specs.Plain.{PlainStep}
-use Rattle.cacache_disk.{specs.declared.luck.Luck.{Luck}, proofs.Roots.{not_true}}
-use Rattle.cacache_entry.specs.Latest.{Found}
-use Rattle.cacache_calls.specs.{declared.{command.Command.{Command}, reply.Reply.{Reply}}, Licence.{Licence, AllMay, KeepsTo, May, allows}, Replies.{lookup}, StepPaths.{bucket_path, content_path}}
+use Rattle.cacache_disk.specs.declared.luck.Luck.{Luck}
+use Rattle.cacache_entry.specs.Bucket.{Found}
+use Rattle.cacache_calls.specs.{declared.{command.Command.{Command}, reply.Reply.{Reply}}, Licence.{Licence, AllMay, KeepsTo, May, allows}, Replies.{lookup}, Steps.{bucket_path, content_path}}
 use Rattle.cacache_calls.proofs.Within.{calls_keep_to}
 use Rattle.cacache_calls.specs.declared.command.Command.TheVariants as commands
 use Rattle.cacache_calls.specs.declared.reply.Reply.TheVariants as replies
-use Rattle.cacache_value.specs.{Acts.{Act, Drop, act_of}, Kinds.{is_path_of}}
-use Rattle.cacache_history.specs.{declared.record.Record.TheVariants.{Moved}, AddedEntries.{IsAmong}, Commits.{Deed, does, finds_in, deeds_of_act, deeds_of, deeds, DropsAmong, FoundFirst, IsCase}, History.{History, Turn, Call, Made, NamesIntegrity, IsLegal, turn_of, call_after}, Places.{now_before, MoveAt}, Setup.{Setup, call_site, home}, ShownTurns.{entries_at}, Turns.{made_in}, Values.{KeepsContent}}
-use Rattle.cacache_history.proofs.{Each.{any_left, any_right}, StepActs.{MayAct, acts_so}, Entries.Writes.{one_path}, Contents.Commits.{commits_are_cases}, Histories.{Holding.{TurnsHold}, Places.{moves_are_of_calls}, Runs.{reached, lost_run}, ShownTurns.{FoundHas, bucket_at_turn, bucket_below, bucket_has, content_below}}}
+use Rattle.cacache_value.specs.{Acts.{Drop, act_of}, Kinds.{is_path_of}}
+use Rattle.cacache_history.specs.{declared.record.Record.TheVariants.{Moved}, AddedEntries.{IsAmong}, Commits.{Deed, does, deeds_of_act, deeds, DropsAmong, FoundFirst, IsCase}, History.{History, Turn, Call, Made, NamesIntegrity, IsLegal, turn_of, call_after}, Places.{now_before, MoveAt}, Setup.{Setup, call_site, home}, Turns.{entries_at, made_in}, Values.{KeepsContent}}
+use Rattle.cacache_history.proofs.{StepActs.{MayAct, acts_so}, Entries.{Writes.{one_path}, Lookups.{last_among}}, Contents.Commits.{commits_are_cases}, Histories.{Holding.{TurnsHold}, Places.{moves_are_of_calls, reached, lost_run}, ShownTurns.{FoundHas, bucket_at_turn, bucket_below, bucket_has, content_below}}}
 use Rattle.cacache_laws.{specs.Meanwhile.{SparesAddress}, proofs.Removing.Removed.{not_content}}
 
 -- ---- paths
@@ -57,10 +57,6 @@ no_removal step names is may = grind (arith, common_steps)
 last_may : (turns : List Turn) (turn : Turn) → AllMay keeping (made_in (turns ++ turn ∷ [])) → May (allows keeping turn.move.step)
 last_may [] turn may = may.0
 last_may (t ∷ turns) turn may = last_may turns turn may.1
-
-last_among : (act : Act) (turns : List Turn) (turn : Turn) → IsAmong (does act) (deeds_of_act (act_of turn.move.step turn.move.luck turn.move.answer)) → IsAmong (does act) (deeds (turns ++ turn ∷ []))
-last_among act [] turn among = any_left (λ (d : Deed). does act ≡ d) (deeds_of turn.move) [] (any_left (λ (d : Deed). does act ≡ d) _ (finds_in turn.move.step turn.move.answer) among)
-last_among act (t ∷ turns) turn among = any_right (λ (d : Deed). does act ≡ d) (deeds_of t.move) (deeds (turns ++ turn ∷ [])) (last_among act turns turn among)
 
 -- a last turn that reads no bucket isn't the first one, which did
 found_before : (cache key : List ℕ) (turns : List Turn) (turn : Turn) (found : Found) → (turn.move.step ≡ steps.ReadAll (bucket_path cache key) → ⊥) → FoundFirst cache key (turns ++ turn ∷ []) found → FoundFirst cache key turns found

@@ -1,21 +1,21 @@
 -- What a link leaves: its bytes are those that the target shows, and its deeds are those of its commit.
 use Rattle.std.proofs.Common.{arith, rules, ◌≡◌, ◌⊎◌, inl, inr, ℕ, true, false, List, [], ◌∷◌, ◌++◌, ◌||◌, Option, None, Some, Result, Ok, Err, length, map, refl, sym, ap, subst, ◌∙◌}
-use Rattle.cacache_core.specs.{declared.{errors.{Error.TheVariants.{IoError}, Fault.{Fault}}, integrity.digest.Hash.{Hash}}, PathNames.{Names, home_of, names_of}}
+use Rattle.cacache_laws.specs.{Puts.{LeadsToPut, MayLeadToPut, ExpectsIntegrity, stored_as}, Beside.{ShareAddress, own_integrity}, Caches.{Called, HasContent, IsCache, lies_under}, ExportEffects.{IsApart}, Links.{FitsLink, KeepsBesideLink, put_like}, Sequence.{Alike, AreAnswered, CallIsAnswered, IsMadeOn, IsSound, SequenceCall, after_deeds, tree_on, turns_on}, Inserts.{own_hash}}
+use Rattle.cacache_laws.proofs.{Putting.Deeds.{commit_leads, finds_so, lies_or_found, lies_so, may_lead}, Calls.{Replays.{some_same}, InParts.{logs_lead}, Sequence.{calls_answer_alone, turns_made}}, Readings.ReadAnswers.{sizing_keeps}, Removing.Removed.{over_run}}
+use Rattle.cacache_core.specs.{declared.{errors.{Error.TheVariants.{IoError}, Fault.{Fault}}, integrity.digest.Hash.{Hash}}, Paths.{Names, home_of, names_of}}
 use Rattle.cacache_core.specs.declared.errors.Fault.TheVariants as faults
 use Rattle.cacache_store.specs.declared.store.answer.Answer.TheVariants as answers
 use Rattle.cacache_store.specs.declared.store.{log.LogItem.{LogItem, TheVariants.{Made}}, plain.PlainFile.{PlainFile}}
 use Rattle.cacache_store.specs.declared.store.step.Step.TheVariants as steps
-use Rattle.cacache_disk.specs.{declared.luck.Luck.TheVariants.{Plain}, Tree.{Tree}, Apply.{apply, opened, unless}, LedTo.{file_at, leads, place}, memory.Replay.{bytes_told, shown, tree_of}}
+use Rattle.cacache_disk.specs.{declared.luck.Luck.TheVariants.{Plain}, Tree.{Tree}, Apply.{apply, opened, unless}, LedTo.{file_at, leads, place}, Replay.{bytes_told, shown, tree_of}}
 use Rattle.cacache_disk.proofs.Roots.{same_self}
 use Rattle.cacache_calls.specs.declared.command.Command.TheVariants as commands
-use Rattle.cacache_calls.specs.{declared.{command.{Link.{Link}, Put.{Put}}, reply.Reply.{Reply}, target.Target.{Target}}, Linking.{based, commit_for, link_target, with_size}, Promises.{Stores}, Runs.{Moves, Runs}, Sound.{SoundTarget}, StepPaths.{content_path}, Storing.{put_commit}, State.{sizing}, Table.{after, opening}}
+use Rattle.cacache_calls.specs.{declared.{command.{Link.{Link}, Put.{Put}}, reply.Reply.{Reply}, target.Target.{Target}}, Linking.{based, commit_for, link_target, with_size}, Promises.{Stores}, Runs.{Moves, Runs}, Sound.{SoundTarget}, Steps.{content_path}, Storing.{put_commit}, State.{sizing}, Table.{after, opening}}
 use Rattle.cacache_calls.proofs.Verifying.{links_read_whole}
 use Rattle.cacache_calls.specs.declared.reply.Reply.TheVariants as replies
 use Rattle.cacache_value.specs.{Acts.{PutLink}, Value.{AtLink, value_of_tree}}
 use Rattle.cacache_history.specs.{Commits.{CommitsAs, Deed, IsNotOk, LinksTo, ReadsTarget, deeds, finds}, Setup.{Setup, call_site, same_place}, Values.{IsThere}}
 use Rattle.cacache_history.proofs.Contents.{Digests.{digest_hash}, OpenedContents.{EachAsks, OnDisks, gives_all, run_asks}}
-use Rattle.cacache_laws.specs.{Beside.{ShareAddress, own_integrity}, Caches.{Called, HasContent, IsCache, lies_under}, ExportEffects.{IsApart}, Links.{FitsLink, KeepsBesideLink, LeavesLink, LinksLast, put_like}, Puts.{ExpectsIntegrity, stored_as}, Sequence.{Alike, AreAnswered, CallIsAnswered, IsMadeOn, IsSound, SequenceCall, after_deeds, tree_on, turns_on}, Stored.{own_hash}}
-use Rattle.cacache_laws.proofs.{Putting.Deeds.{commit_leads, finds_so, lies_or_found, lies_so, may_lead}, Calls.{Logs.{some_same}, InParts.{logs_lead}, Sequence.{calls_answer_alone, turns_made}}, Readings.ReadAnswers.{sizing_keeps}, Removing.Removed.{over_run}}
 
 -- ---- the bytes that the target shows
 
@@ -26,6 +26,16 @@ on_disks t (m ∷ moves) h = ((t, Plain, h.0), on_disks (apply t m.0 Plain).1 mo
 pub opened_held : (t : Tree) (path held : List ℕ) (file : PlainFile) → shown t path ≡ Some held → answers.File file ≡ (apply t (steps.Open path) Plain).0 → file.bytes ≡ Some held
 unfolding apply
 opened_held t path held file = search rules
+
+-- the key leads to the link's entry; under the integrity of the target's bytes lies the link, or what lay
+-- there before
+pub record HasLinked (cache : List ℕ) (p : Put) (path : List ℕ) (i : List Hash)
+    (old new : List LogItem) : Type 0 where
+  pub stored : i ≡ stored_as p
+  pub entry : LeadsToPut cache p new
+  pub lies : (lies_under cache (own_integrity p) new ≡ Some (AtLink path))
+      ⊎ (IsThere (lies_under cache (own_integrity p) old)
+      × (lies_under cache (own_integrity p) new ≡ lies_under cache (own_integrity p) old))
 
 -- what holds of the bytes that were read holds of these
 read_held : (t : Tree) (path held : List ℕ) (P : List ℕ → Type 0) (moves : Moves) → shown t path ≡ Some held → AreAnswered t moves → EachAsks moves → ReadsTarget path P moves → P held
@@ -39,6 +49,13 @@ read_held t path held P moves shows answered asks read =
     subst P same w.5
 
 -- ---- logs
+
+-- what a link of these bytes leaves, whatever it answers
+pub record LeavesLink (cache : List ℕ) (p : Put) (path : List ℕ) (r : Reply)
+    (old new : List LogItem) : Type 0 where
+  pub links : (i : List Hash) → r ≡ replies.Stored i → HasLinked cache p path i old new
+  pub leads : MayLeadToPut cache p old new
+  pub beside : KeepsBesideLink cache p.key (own_integrity p) path old new
 
 module _ (cache : List ℕ) (p : Put) (path : List ℕ) (old new : List LogItem) (ds : List Deed) (reply : Option Reply)
     (commits : CommitsAs (put_commit cache p) (λ names. PutLink names path) ds reply)
@@ -181,7 +198,10 @@ module _ (cache : List ℕ) (l : Link) (r : Reply) (old new : List LogItem) (c :
       let same : tree_of new ≡ tree_of old = lead.1 ∙ stops (tree_of old) t fault c.ran.0 r nameless c.ran.1 lead.0 in
       (subst (IsSound (home_of cache)) (sym same) sound, λ held expects shows. absurd (nothing_shown (tree_of old) (based c.base l.target) held fault nameless shows))
 
-pub links_last : LinksLast
+-- a link to a file apart from the cache leaves a cache, and so much of the bytes that the file shows
+pub links_last : (cache : List ℕ) (l : Link) (r : Reply) (old new : List LogItem) (c : Called cache (commands.Link l) r old new)
+    → FitsLink cache l → IsApart cache (based c.base l.target) → IsCache cache old → IsCache cache new
+    × ((held : List ℕ) → ExpectsIntegrity (put_like l held) → shown (tree_of old) (based c.base l.target) ≡ Some held → LeavesLink cache (put_like l held) (based c.base l.target) r old new)
 links_last cache l r old new c fits apart sound = by (names_of (based c.base l.target)) refl
   where
     by : (n : Result Names Fault) → names_of (based c.base l.target) ≡ n → Leaves cache l r old new c sound

@@ -1,20 +1,20 @@
 -- What the commit of a linker leaves: it reads the rest of what its target showed, and makes the link.
 use Rattle.std.proofs.Common.{arith, rules, ◌≡◌, inl, inr, ◌<◌, ◌^◌, ℕ, List, [], ◌∷◌, ◌++◌, Some, Result, Ok, Err, length, refl, sym, ap, subst, ◌∙◌, append-nil}
 use Rattle.std.specs.Prelude.{IfSome}
-use Rattle.cacache_core.specs.{declared.{errors.Fault.{Fault}, integrity.digest.Hash.{Hash}}, Integrity.{IsIntegrity}, PathNames.{Names, home_of, names_of}}
+use Rattle.cacache_laws.specs.{OpenLinkers.{SuitsSize, LinkersFail, CommitsRest, TargetOpened}, Caches.{IsCache, IsExcused, Grows}, ExportEffects.{IsApart}, InParts.{Begun, Changes, AnswersInParts, IsOnItsWay, Part, made, moves_in, turns_in, with_part}, Links.{FitsLink, put_like}, Puts.{ExpectsIntegrity, stored_as}, Sequence.{Alike, AreAnswered, IsSound, after_deeds, tree_on, turns_on}, Inserts.{own_hash}}
+use Rattle.cacache_laws.proofs.{Links.{Linking.{LeavesLink, is_there, leaves_by, nothing_shown, on_disks, setup_to}, TargetBytes.{ReadOf, file_held, held_of, parts_on_disks, told_held, turns_more}, ExpectedSizes.{fails_only, suited_run}}, Putting.OpenWriters.{cause_later, deeds_later, gains_grow}, Calls.{InParts.{bytes_taken, all_made, calls_begin, logs_lead, moves_then, parts_answer, parts_go_on, run_goes}, Replays.{some_same}}, Readings.{Known.{excused_by}, ReadAnswers.{sizing_keeps}}}
+use Rattle.cacache_core.specs.{declared.{errors.Fault.{Fault}, integrity.digest.Hash.{Hash}}, Integrity.{IsIntegrity}, Paths.{Names, home_of, names_of}}
 use Rattle.cacache_store.specs.declared.store.answer.Answer.TheVariants as answers
 use Rattle.cacache_store.specs.declared.store.{log.LogItem.{LogItem}, plain.PlainFile.{PlainFile}}
 use Rattle.cacache_store.specs.declared.store.step.Step.TheVariants as steps
-use Rattle.cacache_disk.specs.{declared.luck.Luck.TheVariants.{Plain}, Apply.{apply, opened}, memory.Replay.{tree_of}}
+use Rattle.cacache_disk.specs.{declared.luck.Luck.TheVariants.{Plain}, Apply.{apply, opened}, Replay.{tree_of}}
 use Rattle.cacache_calls.specs.declared.command.Command.TheVariants as commands
-use Rattle.cacache_calls.specs.{declared.{command.Link.{Link}, reply.Reply.{Reply}, target.Target.{Target}}, Causes.{Faulted, HasCause, own_of}, Linking.{based, commit_for, link_target, with_size}, Promises.{Stores}, Runs.{Goes, Moves, Runs, plain_reply}, Sound.{SoundTarget}, State.{Site, hashing, to_link}, Storing.{put_commit}, Table.{opening}}
+use Rattle.cacache_calls.specs.{declared.{command.Link.{Link}, reply.Reply.{Reply}, target.Target.{Target}}, Promises.{Faulted, HasCause, own_of, Stores}, Linking.{based, commit_for, link_target, with_size}, Runs.{Goes, Moves, Runs, plain_reply}, Sound.{SoundTarget}, State.{Site, hashing, to_link}, Storing.{put_commit}, Table.{opening}}
 use Rattle.cacache_calls.proofs.Verifying.{links_read_whole}
 use Rattle.cacache_calls.specs.declared.reply.Reply.TheVariants as replies
-use Rattle.cacache_value.specs.{Acts.{PutLink}, OpeningTrees.{LieApart}, Value.{value_of_tree}}
+use Rattle.cacache_value.specs.{Acts.{PutLink}, Placed.{LieApart}, Value.{value_of_tree}}
 use Rattle.cacache_history.specs.{Commits.{CommitsAs, DidNothing, LinksTo, ReadsTarget, deeds}, Setup.{Setup, home}}
 use Rattle.cacache_history.proofs.{Contents.{Digests.{digest_hash}, OpenedContents.{run_asks}}, durable.CommitPlaces.{goes_runs}}
-use Rattle.cacache_laws.specs.{Caches.{IsCache, IsExcused, Grows}, ExportEffects.{IsApart}, InParts.{Begun, Changes, AnswersInParts, IsOnItsWay, Part, made, moves_in, turns_in, with_part}, Links.{FitsLink, LeavesLink, put_like}, OpenLinkers.{LinkersFail, CommitsRest, LinkersCommit, TargetOpened}, Puts.{ExpectsIntegrity, stored_as}, Sequence.{Alike, AreAnswered, IsSound, after_deeds, tree_on, turns_on}, Stored.{own_hash}}
-use Rattle.cacache_laws.proofs.{Putting.OpenWriters.{cause_later, deeds_later, gains_grow}, Calls.{InParts.{bytes_taken, all_made, calls_begin, logs_lead, moves_then, parts_answer, parts_go_on, run_goes}, Logs.{some_same}}, Readings.{Known.{excused_by}, ReadAnswers.{sizing_keeps}}, Links.{Linking.{is_there, leaves_by, nothing_shown, on_disks, setup_to}, TargetBytes.{ReadOf, file_held, held_of, parts_on_disks, told_held, turns_more}, ExpectedSizes.{fails_only, suited_run}}}
 
 -- ---- a commit, as the last part of a link
 
@@ -141,7 +141,12 @@ module _ (cache base : List ℕ) (l : Link) (bytes rest : List ℕ) (first : Pla
         cause_later (own_of (commands.Link l)) (moves_in taken.parts) moves (plain_reply r) taken_faultless
         (subst (λ ms. HasCause (own_of (commands.Link l)) ms (plain_reply r)) (moves_then taken.parts (tree_of old) moves) answered.0.causes)
 
-pub linkers_commit : LinkersCommit
+-- the commit of a linker leaves a cache, and so much of all the bytes of its target
+pub linkers_commit : (cache base : List ℕ) (l : Link) (bytes rest : List ℕ) (first : PlainFile) (r : Reply) (old new : List LogItem)
+    → FitsLink cache l → IsApart cache (based base l.target) → SuitsSize l.options.size (length (bytes ++ rest))
+    → ExpectsIntegrity (put_like l (bytes ++ rest)) → TargetOpened cache (based base l.target) (bytes ++ rest) first → IsCache cache old
+    → CommitsRest cache base l bytes rest r old new → IsCache cache new × Grows old new
+    × LeavesLink cache (put_like l (bytes ++ rest)) (based base l.target) r old new
 linkers_commit cache base l bytes rest first r old new fits apart size expects o sound c = by (names_of (based base l.target)) refl
   where
     by : (n : Result Names Fault) → names_of (based base l.target) ≡ n

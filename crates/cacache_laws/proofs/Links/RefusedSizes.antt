@@ -5,7 +5,7 @@ use Rattle.cacache_core.specs.declared.errors.Fault.TheVariants as faults
 use Rattle.cacache_store.specs.declared.store.answer.Answer.TheVariants as answers
 use Rattle.cacache_store.specs.declared.store.step.Step.TheVariants as steps
 use Rattle.cacache_store.specs.Plain.{PlainAnswer}
-use Rattle.cacache_disk.specs.{declared.luck.Luck.TheVariants.{Plain}, Apply.{apply, opened}, Tree.{Tree}, memory.Replay.{tree_of}}
+use Rattle.cacache_disk.specs.{declared.luck.Luck.TheVariants.{Plain}, Apply.{apply, opened}, Tree.{Tree}, Replay.{tree_of}}
 use Rattle.cacache_calls.specs.{declared.{carried.Commit.{Commit}, command.Link.{Link}, reply.Reply.{Reply}, target.Target.{Target}}, Common.{ends_with}, Linking.{after_read, commit_for, link_target}, Runs.{Moves, Runs}, State.{State, confirming, hashing, linking, over, to_link}, Storing.{compared, indexed, link, matches, placed, sized}, Table.{after, piece}, Effects.{IsRefused}}
 use Rattle.cacache_calls.specs.declared.reply.Reply.TheVariants as replies
 use Rattle.cacache_laws.specs.{OpenLinkers.{CommitsRest, LinkersRefuse}, Sequence.{AreAnswered}}

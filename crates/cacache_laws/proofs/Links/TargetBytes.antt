@@ -1,13 +1,14 @@
 -- What a linker's target showed when it was opened, and what its opening leaves.
 -- If a link lies there, a read shows what its target shows.
 use Rattle.std.proofs.Common.{arith, rules, ◌≡◌, ◌⊎◌, inl, inr, ℕ, List, [], ◌∷◌, ◌++◌, Some, Result, Ok, Err, length, map, refl, sym, ap, subst, ◌∙◌, append_assoc, zero, suc, Option, None}
-use Rattle.cacache_core.specs.{declared.errors.{Error.{Error, TheVariants.{IoError, OutOfMemory}}, Fault.{Fault}}, PathNames.{home_of, Names}}
+use Rattle.std.specs.Prelude.{◌<◌, ◌^◌}
+use Rattle.cacache_laws.specs.{Caches.{IsExcused, lies_under, IsCache, Grows}, OpenLinkers.{TargetOpened, OpensSized, OpensTarget}, Looks.{bytes_under}, InParts.{AreParts, Part, byte_read, made, took, moves_in, turns_in}, OpenWriters.{LeavesKnownCache}, Sequence.{AreAnswered, IsSound, tree_on, turns_on}}
+use Rattle.cacache_laws.proofs.{Calls.{InParts.{byte_answered, logs_lead}, Replays.{excuses_last, growths_join, some_same}}, Links.Linking.{on_disks, opened_held}, Spares.Unused.{unchanged}, Readings.{OpenReaders.{Opened, errs, leaves as known_left, log_front, opened_keeps, opens_file}, ReadAnswers.{opened_so, sizing_keeps}}, Putting.OpenWriters.{excused_step, gains_grow}}
+use Rattle.cacache_core.specs.{declared.{integrity.digest.Hash.{Hash}, errors.{Error.{Error, TheVariants.{IoError, OutOfMemory}}, Fault.{Fault}}}, Paths.{home_of, Names}}
 use Rattle.cacache_store.specs.{declared.store.{log.LogItem.{LogItem, TheVariants.{Made}}, plain.PlainFile.{PlainFile}}, Plain.{PlainStep, PlainAnswer}}
-use Rattle.cacache_disk.specs.{declared.{luck.Luck.{TheVariants.{Plain, Take}, Luck}, node.Node.{Node, TheVariants.{Link}}}, Tree.{Tree, look}, Apply.{apply, opened, unless}, LedTo.{file_at, and_then, bytes_there, followed, leads, on_link, place, standing, where_there}, memory.Replay.{IsLog, bytes_told, shown, tree_of}}
+use Rattle.cacache_disk.specs.{declared.{luck.Luck.{TheVariants.{Plain, Take}, Luck}, node.Node.{Node, TheVariants.{Link}}}, Tree.{Tree, look}, Apply.{apply, opened, unless}, LedTo.{file_at, and_then, bytes_there, followed, leads, on_link, place, standing, where_there}, Replay.{IsLog, bytes_told, shown, tree_of}}
 use Rattle.cacache_calls.specs.{Runs.{Gains, Moves}, SingleSteps.{FailsAt}}
 use Rattle.cacache_history.{specs.{Commits.{ReadsTarget}, History.{turn_of}, Setup.{Setup}}, proofs.{Contents.OpenedContents.{EachAsks, OnDisks, gives_all}, Each.{each_join}}}
-use Rattle.cacache_laws.specs.{Caches.{IsCache, Grows}, InParts.{AreParts, Part, byte_read, made, took, moves_in, turns_in}, OpenLinkers.{GivesSized, GivesTarget, LinkersOpen, LinkersOpenSized, OpensSized, OpensTarget}, OpenWriters.{LeavesKnownCache}, Sequence.{AreAnswered, IsSound, tree_on, turns_on}, Looks.{LinksShow}}
-use Rattle.cacache_laws.proofs.{Calls.{InParts.{byte_answered, logs_lead}, Logs.{excuses_last, growths_join, some_same}}, Links.Linking.{on_disks, opened_held}, Spares.Unused.{unchanged}, Readings.{OpenReaders.{Opened, errs, leaves as known_left, log_front, opened_keeps, opens_file}, ReadAnswers.{opened_so, sizing_keeps}}, Putting.OpenWriters.{excused_step, gains_grow}}
 use Rattle.cacache_value.specs.{Shows.{blob_bytes, link_end}, Value.{AtLink}}
 use Rattle.cacache_core.specs.declared.errors.Fault.TheVariants as faults
 use Rattle.cacache_store.specs.declared.store.answer.Answer.TheVariants as answers
@@ -60,6 +61,14 @@ turns_more (took t file ∷ parts) more = ap (λ l. turn_of t (Take 1) (byte_rea
 pub target_opened : (path : List ℕ) (r : Result PlainFile Error) (old new : List LogItem) → OpensTarget path r (Some old) (Some new) → Opened path r old new
 target_opened path r old new h = grind (arith, errs, opens_file)
 
+-- a target that was opened showed bytes, which the file has; an error is excused
+abbrev pub GivesTarget :
+    List ℕ → List ℕ → Result PlainFile Error → List LogItem → List LogItem → Type 0
+GivesTarget cache path (Ok file) old new =
+    (held : List ℕ) × (shown (tree_of old) path ≡ Some held) × (file ≡ opened held)
+    × (file.left < 2 ^ 64 → TargetOpened cache path held file)
+GivesTarget cache path (Err e) old new = IsExcused e old new
+
 gives_target : (cache path : List ℕ) (r : Result PlainFile Error) (old new : List LogItem) → IsCache cache old → OpensTarget path r (Some old) (Some new) → Opened path r old new → IsLog new
     → GivesTarget cache path r old new
 gives_target cache path (Err e) old new sound h o logged = o.excused e refl
@@ -69,10 +78,20 @@ gives_target cache path (Ok file) old new sound h o logged =
     let shows = opened_shows (tree_of old) path b.0 (subst (λ f. answers.File f ≡ (apply (tree_of old) (steps.Open path) Plain).0) b.1 told) in
     (b.0, shows, b.1, λ small. record { old = old; new = new; sound = sound; shows = shows; opens = h; small = small; logged = logged })
 
-pub linkers_open : LinkersOpen
+-- an opening leaves a cache, and all that was known of it still holds
+pub linkers_open : (cache path : List ℕ) (r : Result PlainFile Error) (old new : List LogItem) → IsCache cache old
+    → OpensTarget path r (Some old) (Some new) → IsLog new → LeavesKnownCache cache old new × GivesTarget cache path r old new
 linkers_open cache path r old new sound h logged =
     let o = target_opened path r old new h in
     (known_left cache old new sound (opened_keeps path r old new o logged) (gains_grow old new o.moves o.gains), gives_target cache path r old new sound h o logged)
+
+-- and the size that it reported is theirs
+abbrev pub GivesSized :
+    List ℕ → List ℕ → Result (ℕ × PlainFile) Error → List LogItem → List LogItem → Type 0
+GivesSized cache path (Ok (size, file)) old new =
+    (held : List ℕ) × (shown (tree_of old) path ≡ Some held) × (file ≡ opened held)
+    × (size ≡ length held) × (file.left < 2 ^ 64 → TargetOpened cache path held file)
+GivesSized cache path (Err e) old new = IsExcused e old new
 
 module _ (cache path : List ℕ) (old new : List LogItem) (sound : IsCache cache old) (logged : IsLog new) where
   -- what is to be shown
@@ -133,7 +152,9 @@ module _ (cache path : List ℕ) (old new : List LogItem) (sound : IsCache cache
       let shows = sym (ap (λ t. shown t path) (same size (Ok file) opens)) ∙ g.1 in
       (known size (Ok file) opens, (g.0, shows, g.2, size_held size (Ok file) opens g.0 shows, g.3))
 
-pub linkers_open_sized : LinkersOpenSized
+-- an opening that asks the size first leaves what was known
+pub linkers_open_sized : (cache path : List ℕ) (r : Result (ℕ × PlainFile) Error) (old new : List LogItem) → IsCache cache old
+    → OpensSized path r (Some old) (Some new) → IsLog new → LeavesKnownCache cache old new × GivesSized cache path r old new
 linkers_open_sized cache path r old new sound h logged = opens_sized cache path old new sound logged r h
 
 module _ (t : Tree) where
@@ -166,7 +187,9 @@ module _ (t : Tree) where
   unfolding apply file_at
   shows_so target bytes e = search (rules, ends_so)
 
-pub links_show : LinksShow
+-- if a link lies there, the bytes that are read are those that its target shows
+pub links_show : (cache target bytes held : List ℕ) (i : List Hash) (log : List LogItem) → lies_under cache i log ≡ Some (AtLink target)
+    → shown (tree_of log) target ≡ Some held → bytes_under cache i log ≡ Ok bytes → bytes ≡ held
 links_show cache target bytes held i log lies shows reads =
     let is : Some bytes ≡ Some held = sym (shows_so (tree_of log) target bytes (sym (ap (blob_bytes (tree_of log)) lies) ∙ reads)) ∙ shows in
     cc

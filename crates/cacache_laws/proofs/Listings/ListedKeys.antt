@@ -1,17 +1,17 @@
 -- What a listing of a cache answers, by what the keys lead to.
 use Rattle.std.proofs.{Common.{arith, ◌≡◌, ◌⊎◌, inl, inr, ℕ, Bool, true, false, cond, List, [], ◌∷◌, ◌++◌, Ok, Err, take, refl, sym, subst, ◌∙◌}, lemmas.List.Elements.{All-nil, All-cons, All-append, All-take}}
 use Rattle.std.specs.Prelude.{All}
+use Rattle.cacache_laws.specs.{Caches.{Called, AStepFailed, IsCache, setup_at}, Sequence.{turns_on}, ListedKeys.{IsShown, AreAllFound, AllListed, ListsKeys, GivesKeys}}
+use Rattle.cacache_laws.proofs.{Readings.{Known.{Known, known}, Looks.{moves_place, run_turns}}, Calls.Sequence.{turns_made}, Listings.ListedTurns.{both_all, once_front, Explained, turns_explained, Leads, turns_lead, all_find, has_bucket, turns_list}}
 use Rattle.cacache_core.specs.declared.errors.{Error.TheVariants.{OutOfMemory}, Fault.{Fault}}
 use Rattle.cacache_store.specs.declared.store.log.LogItem.{LogItem}
-use Rattle.cacache_disk.specs.memory.Replay.{tree_of}
-use Rattle.cacache_calls.specs.{declared.{command.Command.{Command}, reply.Reply.{Reply}}, Causes.{Faulted}, ListReplies.{items_given, too_deep, ListsGiven}, Runs.{plain_reply}, State.{Site, Item}, Table.{opening}, Walking.{most}, Licence.{looking_on, AllMay}}
+use Rattle.cacache_disk.specs.Replay.{tree_of}
+use Rattle.cacache_calls.specs.{declared.{command.Command.{Command}, reply.Reply.{Reply}}, Promises.{Faulted}, Replies.{items_given, too_deep, ListsGiven}, Runs.{plain_reply}, State.{Site, Item}, Table.{opening}, Walking.{most}, Licence.{looking_on, AllMay}}
 use Rattle.cacache_calls.proofs.{ListReplies.{lists_shown}, Within.{calls_keep_to}}
 use Rattle.cacache_calls.specs.declared.command.Command.TheVariants as commands
 use Rattle.cacache_calls.specs.declared.reply.Reply.TheVariants as replies
 use Rattle.cacache_history.specs.{History.{Turn}, ListingTurns.{NoKeyTwice, is_past, listing_of, ListsHeld}, TurnReplies.{ReadsValue}, Turns.{made_in, EachTurn}}
 use Rattle.cacache_history.proofs.Histories.Holding.{TurnsHold}
-use Rattle.cacache_laws.specs.{Sequence.{turns_on}, Caches.{AStepFailed, IsCache, setup_at}, ListedKeys.{IsShown, AreAllFound, AllListed, ListsKeys, GivesKeys, ListingsGive}}
-use Rattle.cacache_laws.proofs.{Readings.{Known.{Known, known}, Looks.{moves_place, run_turns}}, Calls.Sequence.{turns_made}, Listings.ListedTurns.{both_all, once_front, Explained, turns_explained, Leads, turns_lead, all_find, has_bucket, turns_list}}
 
 module _ (cache base : List ℕ) (old new : List LogItem) where
   shown_item : (Why : Fault → Type 0) → ((fault : Fault) → Why fault → AStepFailed old new) → (item : Item) → Leads (setup_at cache base) (tree_of old) item → Explained Why item → IsShown cache old new item
@@ -82,7 +82,9 @@ gives_keys cache base old new sound (replies.Listed list) plain k gave =
 gives_keys cache base old new sound (replies.Refused e) plain k gave = gave
 gives_keys cache base old new sound other plain k gave = absurd gave
 
-pub listings_give : ListingsGive
+-- each listing answers entries that keys lead to
+pub listings_give : (cache : List ℕ) (r : Reply) (old new : List LogItem) → IsCache cache old → Called cache commands.Ls r old new
+    → GivesKeys cache r old new
 listings_give cache r old new sound c =
     let k = known cache commands.Ls r old new c tt tt sound in
     let site : Site = record { cache = cache; base = c.base; number = k.call.number } in

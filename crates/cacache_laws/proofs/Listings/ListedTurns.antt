@@ -1,15 +1,15 @@
 -- The items of a listing, if all of its turns find one tree.
 use Rattle.std.proofs.{Common.{arith, ◌≡◌, ◌⊎◌, inl, inr, ℕ, suc, Bool, true, false, cond, List, [], ◌∷◌, ◌++◌, Option, None, Some, Ok, Err, option_map, map, take, fold, refl, sym, ap, Result, subst, ◌∙◌}, lemmas.{Grind.{common_steps}, List.Elements.{All-nil, All-cons, All-head, All-tail, All-append, All-take, All-weaker}, Slice.Eq.{bytes_eq-Decides}}}
 use Rattle.std.specs.{Prelude.{All, bytes_eq, unwrap_or}, List.{filter_map, cons_option}}
-use Rattle.cacache_entry.specs.{Entry.{Entry}, Latest.{Found, answer_of, after_entry, latest}}
-use Rattle.cacache_calls.specs.{ListReplies.{In, keys_of, too_deep, by_folder}, State.{Item}, Walking.{once, items_of, failed}, declared.answers.Refusal.{Refusal}, Answers.{names_in}, Causes.{Faults, Faulted}, StepPaths.{bucket_path}}
+use Rattle.cacache_entry.specs.{Entry.{Entry}, Bucket.{Found, answer_of, after_entry, latest}}
+use Rattle.cacache_calls.specs.{Replies.{In, keys_of, too_deep, by_folder}, State.{Item}, Walking.{once, items_of, failed}, declared.answers.Refusal.{Refusal}, Answers.{names_in}, Promises.{Faults, Faulted}, Steps.{bucket_path}}
 use Rattle.cacache_calls.proofs.Keys.{each_key_once}
-use Rattle.cacache_history.specs.{ListingTurns.{OtherKey, NoKeyTwice, IsFound, TurnGives, TurnsGive, AnyTurn, HasBucket, TurnReadsBucket, FailsAbove}, Setup.{Setup, home}, History.{Turn}, ShownTurns.{entries_at, held, shown_result, bucket_read, by_entries}, Turns.{made_in, EachTurn}}
+use Rattle.cacache_history.specs.{ListingTurns.{OtherKey, NoKeyTwice, IsFound, TurnGives, TurnsGive, AnyTurn, HasBucket, TurnReadsBucket, FailsAbove}, Setup.{Setup, home}, History.{Turn}, Turns.{entries_at, held, shown_result, bucket_read, by_entries, made_in, EachTurn}}
 use Rattle.cacache_history.proofs.{Histories.{Holding.{TurnHolds, TurnsHold}, ShownTurns.{bucket_below, bucket_at_turn}}, Each.{each_weaker}}
 use Rattle.cacache_laws.{specs.{ListedKeys.{AreAllFound}, ReadAnswers.{entries_on}}, proofs.{trees.Members.{mapped, in_left, in_right}, Readings.ReadAnswers.{is_shown}}}
 use Rattle.sha1.specs.Sha1.{sha1}
 use Rattle.cacache_core.specs.{declared.errors.Fault.{Fault}, Paths.{bucket_names_of}}
-use Rattle.cacache_store.specs.{declared.store.answer.Name.{Name}, Plain.{PlainStep, PlainAnswer}, Fits.{Fits}}
+use Rattle.cacache_store.specs.{declared.store.answer.Name.{Name}, Plain.{PlainStep, PlainAnswer, Fits}}
 use Rattle.cacache_disk.specs.{Tree.{Tree, listing}, LedTo.{file_at, folder}, Apply.{apply, unless}}
 use Rattle.cacache_value.{specs.{Acts.{list_of}, Kinds.{NamesBelow}}, proofs.Shows.{apply_answer}}
 use Rattle.cacache_core.specs.declared.errors.Fault.TheVariants as faults

@@ -1,19 +1,19 @@
 -- An added entry leaves what other keys lead to, and all contents.
 -- What the deeds of a commit leave, whether it puts a file or a link.
-use Rattle.std.proofs.{Common.{arith, rules, ◌≡◌, inl, inr, ℕ, Bool, true, false, cond, List, [], ◌∷◌, ◌++◌, Option, None, Some, refl, sym, ap, ◌∙◌, ◌⊎◌, option_map, subst}, lemmas.{Grind.{common_steps}, List.{Sums.{fold-append}, Elements.{All-head}}, Slice.Eq.{bytes_eq-Decides}, Bool.{cond-true}}}
-use Rattle.std.specs.{Prelude.{bytes_eq, IfSome}, Option.{unwrap_or}}
+use Rattle.std.proofs.{Common.{arith, rules, ◌≡◌, inl, inr, ℕ, Bool, true, cond, List, [], ◌∷◌, ◌++◌, Option, None, Some, refl, sym, ap, ◌∙◌, ◌⊎◌, option_map, subst}, lemmas.{Grind.{common_steps}, List.{Sums.{fold-append}, Elements.{All-head}}, Bool.{cond-true}}}
+use Rattle.std.specs.{Prelude.{IfSome}, Option.{unwrap_or}}
 use Rattle.sha1.specs.Sha1.{sha1}
-use Rattle.cacache_core.specs.{declared.integrity.digest.Hash.{Hash}, Integrity.{address, IsHash, IsIntegrity}, Paths.{bucket_names_of, content_names}, PathNames.{Names, home_of, names_of}}
-use Rattle.cacache_core.proofs.Printed.{printed}
+use Rattle.cacache_core.specs.{declared.integrity.digest.Hash.{Hash}, Integrity.{address, IsHash, IsIntegrity}, Paths.{content_names, Names, home_of, names_of}}
+use Rattle.cacache_core.proofs.{Printed.{printed}, ProperNames.{not_true}}
 use Rattle.cacache_store.specs.declared.store.log.LogItem.{LogItem}
-use Rattle.cacache_disk.{proofs.Roots.{not_true}, specs.memory.Replay.{tree_of}}
-use Rattle.cacache_entry.specs.{Entry.{Entry}, Latest.{answer_of, answer_to, after_entry, latest, answer_read, found_of}}
-use Rattle.cacache_calls.specs.{declared.{reply.Reply.{Reply}, command.Put.{Put}}, State.{Insertion}, Inserting.{given_or}, StepPaths.{content_path}, Storing.{insertion_of, put_commit}}
+use Rattle.cacache_disk.specs.Replay.{tree_of}
+use Rattle.cacache_entry.specs.{Entry.{Entry}, Bucket.{answer_of, answer_to, after_entry, latest, answer_read, found_of}}
+use Rattle.cacache_calls.specs.{declared.{reply.Reply.{Reply}, command.Put.{Put}}, State.{Insertion}, Inserting.{given_or}, Steps.{content_path}, Storing.{insertion_of, put_commit}}
 use Rattle.cacache_value.specs.{Kinds.{is_path_of}, Value.{Value, value_of_tree, AtLink, Blob, InFile}, Acts.{change, list_of, Act, PutBytes, PutLink}}
-use Rattle.cacache_history.specs.{ShownTurns.{blob_at}, Commits.{Deed, does, finds, IsAdded, InsertionAdds, PutsContent, AddsAfter, CommitsAs, IsNotOk}}
+use Rattle.cacache_history.specs.{Turns.{blob_at}, Commits.{Deed, does, finds, IsAdded, InsertionAdds, PutsContent, AddsAfter, CommitsAs, IsNotOk}}
 use Rattle.cacache_history.proofs.{Contents.{Digests.{digest_hash, own_integrity as own_formed}, Righted.{one_address}}, Histories.ShownTurns.{content_below}}
-use Rattle.cacache_laws.specs.{Sequence.{Alike, after_deeds}, Caches.{HasContent, HasKey, lies_under, setup_at}, Keeping.{found_under, StaysKnown, KeepsOthers}, Beside.{IsOther, ShareAddress, own_integrity}, Puts.{ExpectsIntegrity, LeadsToPut, MayLeadToPut, entry_of_put}, ReadAnswers.{entries_on}, Stored.{own_hash}}
-use Rattle.cacache_laws.proofs.{Putting.Stored.{adds_entry, below_is, first_deed}, Readings.Looking.{finds_last}}
+use Rattle.cacache_laws.specs.{Sequence.{Alike, after_deeds}, Caches.{HasContent, HasKey, lies_under, setup_at}, Beside.{found_under, StaysKnown, KeepsOthers, IsOther, ShareAddress, own_integrity}, Puts.{ExpectsIntegrity, LeadsToPut, MayLeadToPut, entry_of_put}, ReadAnswers.{entries_on}, Inserts.{own_hash}}
+use Rattle.cacache_laws.proofs.{Putting.Stored.{adds_entry, below_is, first_deed}, Readings.Looks.{finds_last}}
 
 -- ---- lookups
 

@@ -2,15 +2,15 @@
 -- What the commit of a writer leaves in a cache.
 use Rattle.std.proofs.{Common.{arith, rules, ◌≡◌, ◌⊎◌, inl, inr, ℕ, false, List, [], ◌∷◌, ◌++◌, Option, None, Some, Result, Ok, Err, map, refl, sym, ap, subst, ◌∙◌, append-nil, append_assoc}, lemmas.Grind.{common_steps}}
 use Rattle.serde_json.specs.Data.{null}
-use Rattle.cacache_core.specs.{declared.{errors.{Error.{Error, TheVariants.{IoError, OutOfMemory}}, Fault.{Fault}}, integrity.{algorithm.Algorithm.TheVariants.{Sha256}, digest.Hash.{Hash}}}, PathNames.{Names, names_of, home_of}, Integrity.{IsHash}}
+use Rattle.cacache_core.specs.{declared.{errors.{Error.{Error, TheVariants.{IoError, OutOfMemory}}, Fault.{Fault}}, integrity.{algorithm.Algorithm.TheVariants.{Sha256}, digest.Hash.{Hash}}}, Paths.{Names, names_of, home_of}, Integrity.{IsHash}}
 use Rattle.cacache_store.specs.{declared.store.{log.LogItem.{LogItem, TheVariants.{Made}}, plain.PlainTemp.{PlainTemp}}, Plain.{PlainAnswer}}
-use Rattle.cacache_disk.specs.{declared.{luck.Luck.TheVariants.{Plain}, node.Node.TheVariants.{File}}, Tree.{Tree, put}, LedTo.{free}, Apply.{apply, unless, made_temp}, memory.Replay.{tree_of, IsLog}}
-use Rattle.cacache_calls.specs.{declared.{command.Put.{Put}, reply.Reply.{Reply}}, Causes.{Faulted, HasCause, own_of}, Common.{fails}, StepPaths.{temp_folder, temp_path, content_path}, Runs.{Moves, Goes, Gains, Runs, plain_reply}, State.{State}, Storing.{put_commit, persist, insertion_of, write_rest}, Table.{opening}, SingleSteps.{Does, FailsAt}, Sound.{FormedIfWritten}}
+use Rattle.cacache_disk.specs.{declared.{luck.Luck.TheVariants.{Plain}, node.Node.TheVariants.{File}}, Tree.{Tree, put}, LedTo.{free}, Apply.{apply, unless, made_temp}, Replay.{tree_of, IsLog}}
+use Rattle.cacache_calls.specs.{declared.{command.Put.{Put}, reply.Reply.{Reply}}, Promises.{Faulted, HasCause, own_of}, Common.{fails}, Steps.{temp_folder, temp_path, content_path}, Runs.{Moves, Goes, Gains, Runs, plain_reply}, State.{State}, Storing.{put_commit, persist, insertion_of, write_rest}, Table.{opening}, SingleSteps.{Does, FailsAt}, Sound.{FormedIfWritten}}
 use Rattle.cacache_value.specs.{Acts.{MakeFolders, act_at, act_with, folders_left, PutBytes}, Value.{value_of_tree}}
 use Rattle.cacache_history.specs.{Setup.{call_site}, Commits.{deeds_of_act, deeds, Deed, finds, deeds_of, CommitsAs}, History.{Turn}, Values.{IsThere}}
 use Rattle.cacache_history.proofs.durable.CommitPlaces.{goes_runs}
-use Rattle.cacache_laws.specs.{Sequence.{tree_on, turns_on, Alike, after_deeds, IsSound}, InParts.{Begun, moves_in, with_part, IsOnItsWay}, Caches.{IsCache, Grows, IsExcused, setup_at}, OpenWriters.{LeavesKnownCache, make_folder, make_file, OpensWriter, HasOpened, WritersOpen, IsOpened, CommitsBytes, CommitsLast}}
-use Rattle.cacache_laws.proofs.{Putting.Deeds.{stays_known}, Calls.{Logs.{some_same}, InParts.{logs_lead, calls_begin, parts_go_on, parts_answer, writes_are_parts}}, trees.Logged.{gains_join}}
+use Rattle.cacache_laws.specs.{Sequence.{tree_on, turns_on, Alike, after_deeds, IsSound}, InParts.{Begun, moves_in, with_part, IsOnItsWay}, Caches.{IsCache, Grows, IsExcused, setup_at}, OpenWriters.{LeavesKnownCache, make_folder, make_file, OpensWriter, IsOpened, CommitsBytes}}
+use Rattle.cacache_laws.proofs.{Putting.Deeds.{stays_known}, Calls.{Replays.{some_same}, InParts.{logs_lead, calls_begin, parts_go_on, parts_answer, writes_are_parts}}, trees.Logged.{gains_join}}
 use Rattle.cacache_store.specs.declared.store.answer.Answer.TheVariants as answers
 use Rattle.cacache_store.specs.declared.store.step.Step.TheVariants as steps
 use Rattle.cacache_calls.specs.declared.command.Command.TheVariants as commands
@@ -143,6 +143,11 @@ module _ (cache : List ℕ) (number : ℕ) (old new : List LogItem) where
   opening_made logged (Err e) h = (failed e h).0
   opening_made logged (Ok file) h = (opened_so logged file h).0
 
+-- the writer's file is empty at first; an error is excused
+abbrev pub HasOpened : List ℕ → ℕ → Result PlainTemp Error → List LogItem → List LogItem → Type 0
+HasOpened cache number (Ok file) old new = (file.path ≡ temp_path cache number) × (file.bytes ≡ Some []) × IsOpened cache number
+HasOpened cache number (Err e) old new = IsExcused e old new
+
 module _ (cache : List ℕ) (number : ℕ) (old new : List LogItem) (sound : IsCache cache old) (logged : IsLog new) where
   -- what it keeps, as far as it goes
   part_keeps : Opening cache number old new → LeavesKnownCache cache old new
@@ -167,7 +172,9 @@ module _ (cache : List ℕ) (number : ℕ) (old new : List LogItem) (sound : IsC
         (ap (λ (f : PlainTemp). f.path) o.1, ap (λ (f : PlainTemp). f.bytes) o.1, record { old = old; new = new; sound = sound; opens = (h.0, h.1, subst (λ f. Does (make_file cache number) (answers.Temp f) h.0 (Some new)) o.1 h.2); logged = logged }),
       )
 
-pub writers_open : WritersOpen
+-- a writer's opening leaves a cache, and all that was known of it still holds
+pub writers_open : (cache : List ℕ) (number : ℕ) (r : Result PlainTemp Error) (old new : List LogItem) → IsCache cache old
+    → OpensWriter cache number r (Some old) (Some new) → IsLog new → LeavesKnownCache cache old new × HasOpened cache number r old new
 writers_open cache number r old new sound h logged = opens cache number old new sound logged r h
 
 deeds_through : (xs ys : List Turn) → deeds (xs ++ ys) ≡ deeds xs ++ deeds ys
@@ -254,5 +261,8 @@ module _ (cache : List ℕ) (p : Put) (number : ℕ) (may : (key : List ℕ) →
         leads = lead.1;
       }
 
-pub commits_last : CommitsLast
+-- a commit leaves a cache, if its entry is well-formed or refused
+pub commits_last : (cache : List ℕ) (p : Put) (number : ℕ) (r : Reply) (old new : List LogItem)
+    → ((key : List ℕ) → p.key ≡ Some key → FormedIfWritten (insertion_of (put_commit cache p) key)) → IsOpened cache number
+    → IsCache cache old → CommitsBytes cache p number r old new → IsCache cache new × Grows old new
 commits_last cache p number r old new may o sound c = let e = ended cache p number may o r old new sound c in (e.sound, gains_grow old new c.ran.0 c.ran.2)

@@ -3,18 +3,18 @@ use Rattle.std.proofs.{lemmas.{Grind.{common_steps}, List.Elements.{All-nil, All
 use Rattle.std.specs.{Prelude.{All, []}, List.{AllByRecursion}}
 use Rattle.hex.specs.Hex.{encode_lower}
 use Rattle.cacache_core.specs.declared.errors.Fault.TheVariants as faults
-use Rattle.cacache_core.specs.{declared.{errors.SerdeCause.{SerdeCause}, integrity.digest.Hash.{Hash}}, Digests.{digest}, Integrity.{hash_of}, PathNames.{Names, names_of, home_of, names_below, IsProperName}, Paths.{content_names, folder_names}}
+use Rattle.cacache_core.specs.{declared.{errors.SerdeCause.{SerdeCause}, integrity.digest.Hash.{Hash}}, Integrity.{digest, hash_of}, Paths.{Names, names_of, home_of, names_below, IsProperName, content_names, folder_names}}
 use Rattle.cacache_core.proofs.{JoinedNames.{joined_texts_name}, ProperNames.{names_are_proper}}
 use Rattle.cacache_store.specs.{declared.store.plain.PlainTemp.{PlainTemp}, Plain.{PlainStep, PlainAnswer}}
 use Rattle.cacache_store.specs.declared.store.step.Step.TheVariants as steps
 use Rattle.cacache_store.specs.declared.store.answer.Answer.TheVariants as answers
-use Rattle.cacache_disk.specs.{declared.luck.Luck.TheVariants.{Plain}, Tree.{Tree}, LedTo.{place, file_at, folder}, Rooted.{Rooted}, Apply.{apply, plain}}
+use Rattle.cacache_disk.specs.{declared.luck.Luck.TheVariants.{Plain}, Tree.{Tree, Rooted}, LedTo.{place, file_at, folder}, Apply.{apply, plain}}
 use Rattle.cacache_disk.proofs.{Changes.{apply_tree, unless_tree}, FoundNodes.{place_ok}, KeptFolders.{steps_keep_rooted}}
-use Rattle.cacache_calls.specs.{declared.{command.Put.{Put}, reply.Reply.{Reply}, carried.Commit.{Commit}}, Answers.{done_in, temp_in, written_in, synced_in, taken_in}, Common.{fails, errand_step}, Inserting.{unless_refused, bucket_line, recorded, after_append, refused_cause}, StepPaths.{content_path, content_folder, temp_path}, Runs.{Moves, Runs}, State.{State, asking, confirming, walking, doing, creating, writing, syncing, persisting, appending, over, Site, Insertion, make_folder, sync_file, sync_dir, Errand}, Storing.{insertion_of, indexed, sized, compared, matches, write_rest, after_write, put_commit}, Table.{wants, after, opening}}
-use Rattle.cacache_calls.proofs.{Branches.{cond_leads, go_on_leads}, Leading.{moves_on, secures, records}, Sound.{some_is}}
+use Rattle.cacache_calls.specs.{declared.{command.Put.{Put}, reply.Reply.{Reply}, carried.Commit.{Commit}}, Answers.{done_in, temp_in, written_in, synced_in, taken_in}, Common.{fails, errand_step}, Inserting.{unless_refused, bucket_line, recorded, after_append, refused_cause}, Steps.{content_path, content_folder, temp_path}, Runs.{Moves, Runs}, State.{State, asking, confirming, walking, doing, creating, writing, syncing, persisting, appending, over, Site, Insertion, make_folder, sync_file, sync_dir, Errand}, Storing.{insertion_of, indexed, sized, compared, matches, write_rest, after_write, put_commit}, Table.{wants, after, opening}}
+use Rattle.cacache_calls.proofs.{Going.{cond_leads, go_on_leads, moves_on, secures, records}, Sound.{some_is}}
 use Rattle.cacache_calls.specs.declared.command.Command.TheVariants as commands
-use Rattle.cacache_value.specs.{Acts.{act_of}, Kinds.{Content, IsFor, path_kind}, Placed.{Placed, Proper}, Traces.{IsTrace}}
-use Rattle.cacache_value.proofs.{FoundPaths.{of_names, suits}, Traces.{steps_keep_placed}}
+use Rattle.cacache_value.specs.{Acts.{act_of, IsTrace}, Kinds.{Content, IsFor, path_kind}, Placed.{Placed, Proper}}
+use Rattle.cacache_value.proofs.{Applying.{of_names, suits}, Traces.{steps_keep_placed}}
 use Rattle.cacache_history.specs.Commits.{Deed, finds, deeds_of_act, finds_in, deeds}
 use Rattle.cacache_history.proofs.{Contents.Digests.{digest_hash}, Syncing.{temp_synced}, durable.CommitMoves.{done_is}}
 use Rattle.cacache_laws.specs.Sequence.{turns_on, plain_moves}

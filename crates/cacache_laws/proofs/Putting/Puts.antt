@@ -2,20 +2,20 @@
 -- What a put and a writer's commit leave, with any options.
 -- What an insertion leaves in a cache.
 use Rattle.std.proofs.{lemmas.Grind.{common_steps}, Common.{rules, ◌≡◌, ◌⊎◌, inl, inr, ℕ, List, [], ◌∷◌, Option, None, Some, length, refl, sym, subst, ◌∙◌, arith, ◌++◌, option_map, ap}}
-use Rattle.std.specs.Prelude.{IfSome}
-use Rattle.cacache_core.specs.{declared.{integrity.{digest.Hash.{Hash}, algorithm.Algorithm.{Algorithm}}, errors.{Error.{Error, TheVariants.{EntryNotFound, SizeMismatch, IoError, SerdeError, IntegrityError, OutOfMemory}}, SerdeCause.{SerdeCause}}}, Integrity.{Meets, integrity_under, IsIntegrity}, PathNames.{home_of}, Texts.{integrity_text}}
+use Rattle.std.specs.Prelude.{◌^◌, ◌<◌, IsUtf8, IfSome}
+use Rattle.cacache_laws.specs.{CallErrors.{IsPlainPut, FailsOnly}, Caches.{IsExcused, Called, IsCache, HasContent, HasKey, plain_put, setup_at, lies_under}, results.Handles.{LiesOrStayed}, Puts.{stored_as, LeadsToPut, ExpectsIntegrity, CommitsKeep}, OpenWriters.{IsOpened, CommitsBytes}, Beside.{KeepsOthers, found_under, FitsEntry, ShareAddress, KeepsBeside, own_integrity, PlainWritesFit}, Sequence.{Alike, after_deeds, turns_on}, Inserts.{own_hash, PutsStore, InsertsKey, InsertsLast, KeysJoin, NoneLacks}, ReadAnswers.{entries_on}}
+use Rattle.cacache_laws.proofs.{Readings.{Known.{excused_by, Known, known, excuse}, Looks.{finds_last}}, Calls.CallErrors.{calls_fail_only, inserts_fail}, Putting.{Deeds.{bucket_entries, put_or_found, finds_so, lies_so, adds_keep, PutsIt, commit_leads, lies_or_found, may_lead}, Stored.{bare_written, keyed_formed, inserts_add}, OpenWriters.{Ended, ended}}}
+use Rattle.cacache_calls.specs.{Promises.{own_of, Only}, declared.{command.{Command.{Command}, Delete.{Delete}, Put.{Put}, Insert.{Insert}}, reply.Reply.{Reply}}, Inserting.{deletion, refused_cause, insertion, given_or, given_text, no_integrity}, Storing.{insertion_of, put_commit}, Steps.{content_path}}
+use Rattle.cacache_calls.proofs.{Telling.{integrity_utf8}, Promises.{calls_answer}}
+use Rattle.cacache_history.specs.{Commits.{Deed, finds, deeds, CommitsAs, IsCase, IsNotOk, InsertionAdds}, Setup.{call_site, home}}
+use Rattle.cacache_history.proofs.Contents.Digests.{digest_hash, own_integrity as own_formed}
+use Rattle.cacache_core.specs.{declared.{integrity.digest.Hash.{Hash}, errors.{Error.{Error, TheVariants.{EntryNotFound, SizeMismatch, IoError, SerdeError, IntegrityError, OutOfMemory}}, SerdeCause.{SerdeCause}}}, Integrity.{Meets, integrity_under, IsIntegrity}, Paths.{home_of}, Texts.{integrity_text}}
 use Rattle.cacache_core.proofs.{Meeting.{own_is_met}, Printed.{printed}}
 use Rattle.cacache_store.specs.declared.store.log.LogItem.{LogItem}
 use Rattle.sha1.specs.Sha1.{sha1}
-use Rattle.cacache_disk.specs.memory.Replay.{tree_of}
-use Rattle.cacache_entry.specs.{FittingEntries.{IsEntry, IsUtf8IfAny}, Latest.{Found, found_of, answer_read, answer_of}}
-use Rattle.cacache_calls.specs.{declared.{command.{Command.{Command}, Delete.{Delete}, Put.{Put}, Insert.{Insert}}, reply.Reply.{Reply}}, Inserting.{deletion, refused_cause, insertion, given_or, given_text, no_integrity}, Storing.{insertion_of, put_commit}, Causes.{own_of}, StepPaths.{content_path}, Promises.{Only}}
-use Rattle.cacache_calls.proofs.{IntegrityUtf8.{integrity_utf8}, Promises.{calls_answer}}
+use Rattle.cacache_disk.specs.Replay.{tree_of}
+use Rattle.cacache_entry.specs.{FittingEntries.{IsEntry, IsUtf8IfAny}, Bucket.{Found, found_of, answer_read, answer_of}}
 use Rattle.cacache_value.specs.{Acts.{PutBytes}, Value.{InFile, value_of_tree}}
-use Rattle.cacache_history.specs.{Commits.{Deed, finds, deeds, CommitsAs, IsCase, IsNotOk, InsertionAdds}, Setup.{call_site, home}, Values.{IsThere}}
-use Rattle.cacache_history.proofs.Contents.Digests.{digest_hash, own_integrity as own_formed}
-use Rattle.cacache_laws.specs.{Beside.{ShareAddress, KeepsBeside, own_integrity, WritesKeep, PlainWritesFit, RemovalsKeep, FitsEntry}, Caches.{HasContent, HasKey, plain_put, setup_at, IsCache, WritesKey, lies_under}, Keeping.{found_under}, Sequence.{Alike, after_deeds, turns_on}, Stored.{own_hash, PutsStore}, OpenWriters.{CommitsBytes, CommitsStore, IsOpened, NothingElse}, Puts.{CommitsLeave, CommitsKeep}, ReadAnswers.{entries_on}, CallErrors.{FailsOnly}, Inserts.{InsertsKey, InsertsLast, PlainInsertsFit, KeysJoin, NoneLacks}}
-use Rattle.cacache_laws.proofs.{Putting.{Deeds.{bucket_entries, put_or_found, finds_so, lies_so, adds_keep, PutsIt, commit_leads, lies_or_found, may_lead}, Forms.{bare_written, keyed_formed, has_key}, OpenWriters.{gains_grow, Ended, ended}, Stored.{inserts_add}}, Readings.{Known.{Known, known, excused_by, excuse}, Looking.{finds_last}}, Calls.CallErrors.{calls_fail_only, inserts_fail}}
 use Rattle.cacache_calls.specs.declared.command.Command.TheVariants as commands
 use Rattle.cacache_calls.specs.declared.reply.Reply.TheVariants as replies
 
@@ -61,7 +61,9 @@ module _ (cache base : List ℕ) (command : Command) (r : Reply) (old new : List
   pub follows_of : Alike (value_of_tree (home_of cache) (tree_of new)) (after_deeds (home_of cache) (deeds (turns_on (tree_of old) k.call.moves)) (value_of_tree (home_of cache) (tree_of old)))
   follows_of = search rules
 
-pub writes_keep : WritesKeep
+-- a put keeps everything except its key and its bytes, whatever it answers
+pub writes_keep : (cache : List ℕ) (p : Put) (r : Reply) (old new : List LogItem) → FitsEntry cache p → IsCache cache old
+    → Called cache (commands.Put p) r old new → IsCache cache new × KeepsBeside cache p.key (own_integrity p) p.data old new
 writes_keep cache p r old new fits sound c =
     let k = known cache (commands.Put p) r old new c fits tt sound in (
       k.sound,
@@ -74,7 +76,9 @@ plain_writes_fit a cache key bytes moment utf8 small early k e none =
     let w = bare_written key (Some (integrity_text (integrity_under a bytes))) moment (length bytes) utf8 (integrity_utf8 (integrity_under a bytes)) early small in
     keyed_formed (λ k. IsEntry (insertion_of (put_commit cache (plain_put a key bytes moment)) k).entry) key k e w.formed
 
-pub removals_keep : RemovalsKeep
+-- a removal of a key keeps all other keys and all contents, whatever it answers
+pub removals_keep : (cache key : List ℕ) (moment : ℕ) (r : Reply) (old new : List LogItem) → IsUtf8 key → moment < 2 ^ 64
+    → IsCache cache old → Called cache (commands.Delete (record { key = key; moment = moment })) r old new → KeepsOthers cache key old new
 unfolding refused_cause
 removals_keep cache key moment r old new utf8 early sound c =
     let d : Delete = record { key = key; moment = moment } in
@@ -118,11 +122,22 @@ puts_store s t call p key i command keyed reply answers =
 
 -- ---- commits
 
+-- the same of a commit, except that what was there may have stayed if its bytes couldn't be moved
+-- to their place: they, or another text with their digest, or a link
+pub record HasCommitted (cache : List ℕ) (p : Put) (i : List Hash) (old new : List LogItem)
+    : Type 0 where
+  pub stored : i ≡ stored_as p
+  pub entry : LeadsToPut cache p new
+  pub content : LiesOrStayed cache (own_integrity p) p.data old new
+
 module _ (cache : List ℕ) (p : Put) (number : ℕ) (r : Reply) (old new : List LogItem) (e : Ended cache p number r old new) where
   ended_follows : Alike (value_of_tree (home_of cache) (tree_of new)) (after_deeds (home_of cache) (deeds (turns_on (tree_of old) e.moves)) (value_of_tree (home_of cache) (tree_of old)))
   ended_follows = search rules
 
-pub commits_leave : CommitsLeave
+-- a commit that stored, with any options, with or without a key
+pub commits_leave : (cache : List ℕ) (p : Put) (number : ℕ) (i : List Hash) (old new : List LogItem) → FitsEntry cache p
+    → ExpectsIntegrity p → IsOpened cache number → IsCache cache old → CommitsBytes cache p number (replies.Stored i) old new
+    → HasCommitted cache p i old new
 commits_leave cache p number i old new fits expects o sound c =
     let e = ended cache p number fits o (replies.Stored i) old new sound c in
     let ds = deeds (turns_on (tree_of old) e.moves) in
@@ -144,35 +159,15 @@ commits_keep cache p number r old new fits expects o sound c =
     let follows = ended_follows cache p number r old new e in
     (may_lead cache p (InFile p.data) old new ds (Some r) e.commits follows expects, put_keeps cache p old new ds (Some r) e.commits follows)
 
--- ---- of bytes under a key
+-- a commit of a plain put with a key fails only for a step of its own or for memory
+pub commits_fail : (cache key : List ℕ) (p : Put) (number : ℕ) (e : Error) (old new : List LogItem) → FitsEntry cache p → IsPlainPut cache key p
+    → IsOpened cache number → IsCache cache old → CommitsBytes cache p number (replies.Refused e) old new → IsExcused e old new
+commits_fail cache key p number error old new fits plain o sound c =
+    let e = ended cache p number fits o (replies.Refused error) old new sound c in
+    excused_by (own_of (commands.Put p)) old new e.moves (λ fault none. none) e.gained error e.causes
+    (calls_fail_only.puts (call_site (setup_at cache []) number) key p e.whole (replies.Refused error) plain e.run)
 
-module _ (a : Algorithm) (cache key bytes : List ℕ) (moment number : ℕ) (old new : List LogItem) (free : NothingElse cache (integrity_under a bytes) bytes old) (fits : FitsEntry cache (plain_put a key bytes moment))
-    (o : IsOpened cache number) (sound : IsCache cache old) (written : refused_cause (insertion_of (put_commit cache (plain_put a key bytes moment)) key) ≡ None) where
-  -- a content that the commit finds has the bytes, since nothing else lies there
-  content_free : HasContent cache (integrity_under a bytes) bytes new
-      ⊎ (IsThere (lies_under cache (integrity_under a bytes) old) × (lies_under cache (integrity_under a bytes) new ≡ lies_under cache (integrity_under a bytes) old)) → HasContent cache (integrity_under a bytes) bytes new
-  content_free h = grind (arith, own_formed, own_is_met)
-
-  stores : (r : Reply) → CommitsBytes cache (plain_put a key bytes moment) number r old new → WritesKey cache key bytes r old new
-  stores (replies.Stored i) c =
-      let h = commits_leave cache (plain_put a key bytes moment) number i old new fits tt o sound c in
-      has_key a cache key bytes moment i new h.stored (h.entry key refl) (content_free h.content)
-  stores (replies.Refused error) c =
-      let e = ended cache (plain_put a key bytes moment) number fits o (replies.Refused error) old new sound c in
-      excused_by (own_of (commands.Put (plain_put a key bytes moment))) old new e.moves (λ fault none. none) e.gained error e.causes
-      (calls_fail_only.puts (call_site (setup_at cache []) number) key (plain_put a key bytes moment) e.whole (replies.Refused error)
-      (record { key_is = refl; no_integrity = refl; no_size = refl; written = written }) e.run)
-  stores r c =
-      let e = ended cache (plain_put a key bytes moment) number fits o r old new sound c in
-      absurd (calls_answer (call_site (setup_at cache []) number) (commands.Put (plain_put a key bytes moment)) e.whole r e.run)
-
-pub commits_store : CommitsStore
-unfolding refused_cause
-commits_store a cache key bytes moment number r old new utf8 small early o sound free c =
-    let fits = plain_writes_fit a cache key bytes moment utf8 small early in
-    let w = bare_written key (Some (integrity_text (integrity_under a bytes))) moment (length bytes) utf8 (integrity_utf8 (integrity_under a bytes)) early small in
-    let e = ended cache (plain_put a key bytes moment) number fits o r old new sound c in
-    (e.sound, gains_grow old new c.ran.0 c.ran.2, stores a cache key bytes moment number old new free fits o sound w.no_cause r c)
+-- ---- insertions
 
 -- the entry that is added last is found
 leads : (cache : List ℕ) (i : Insert) (old new : List LogItem) → (given : Option (List Hash)) → i.options.integrity ≡ given → IfSome given IsIntegrity
@@ -230,12 +225,6 @@ inserts_last cache i r old new formed written sound c =
 
 pub given_utf8 : (integrity : Option (List Hash)) → IsUtf8IfAny (given_text integrity)
 given_utf8 integrity = grind (arith, integrity_utf8)
-
-pub plain_inserts_fit : PlainInsertsFit
-unfolding refused_cause
-plain_inserts_fit a cache key integrity moment utf8 early =
-    let w = bare_written key (given_text integrity) moment 0 utf8 (given_utf8 integrity) early (omega arith) in
-    (λ none. w.formed, w.no_cause)
 
 -- ---- what comes of it
 

@@ -2,19 +2,19 @@
 -- What a write leaves in a cache.
 use Rattle.std.proofs.{Common.{arith, rules, ◌≡◌, ◌⊎◌, inl, inr, ℕ, List, [], ◌∷◌, ◌++◌, Option, None, Some, Result, Ok, Err, map, refl, sym, ap, subst, ◌∙◌, append-nil, length}, lemmas.{Grind.{common_steps}, List.Elements.{All-nil}}}
 use Rattle.std.specs.Prelude.{IfOk}
-use Rattle.cacache_laws.specs.{Puts.{PutsLeave, PutsMayLead, ExpectsIntegrity, HasPut}, Beside.{FitsEntry, own_integrity}, CallErrors.{IsPlainPut}, Caches.{Called, IsExcused, setup_at, plain_put, WritesKey, WritesLast}, Sequence.{Alike, AreAnswered, after_deeds, plain_moves, tree_on, turns_on}, Standing.{IsStanding, PutStands, StandingWrites}}
-use Rattle.cacache_laws.proofs.{Readings.{Standing.{caches_stand}, Known.{excused_by, known}}, Putting.{Puts.{put_keeps, has_or_found, plain_writes_fit}, Persisting.{puts_find_nothing}, Deeds.{commit_leads, may_lead}, Forms.{bare_written, has_key}}, Calls.{CallErrors.{calls_fail_only}, InParts.{logs_lead}, Logs.{some_same}, Sequence.{moves_after, moves_follow, turns_made}}}
-use Rattle.cacache_core.specs.{declared.{errors.{Error.{Error}, Fault.{Fault}}, integrity.{digest.Hash.{Hash}, algorithm.Algorithm.{Algorithm}}}, PathNames.{Names, names_of, home_of}, Integrity.{integrity_under}, Texts.{integrity_text}}
-use Rattle.cacache_store.specs.{Fits.{Fits}, Plain.{PlainAnswer}, declared.store.log.LogItem.{LogItem, TheVariants.{Made}}}
-use Rattle.cacache_disk.specs.{declared.{luck.Luck.TheVariants.{Plain}, node.Node.{Node, TheVariants.{Link}}}, Apply.{apply}, Rooted.{Rooted}, Tree.{Tree, look}, memory.Replay.{tree_of}}
+use Rattle.cacache_laws.specs.{Puts.{ExpectsIntegrity, HasPut}, Caches.{Called, IsExcused, setup_at, plain_put, WritesKey, WritesLast}, Beside.{FitsEntry, own_integrity}, CallErrors.{IsPlainPut}, Sequence.{Alike, AreAnswered, after_deeds, plain_moves, tree_on, turns_on}, Standing.{IsStanding, PutStands, StandingWrites}}
+use Rattle.cacache_laws.proofs.{Readings.{Standing.{caches_stand}, Known.{excused_by, known}}, Putting.{Puts.{put_keeps, has_or_found, plain_writes_fit}, Persisting.{puts_find_nothing}, Deeds.{commit_leads, may_lead}, Stored.{bare_written, has_key}}, Calls.{CallErrors.{calls_fail_only}, InParts.{logs_lead}, Replays.{some_same}, Sequence.{moves_after, moves_follow, turns_made}}}
+use Rattle.cacache_core.specs.{declared.{errors.{Error.{Error}, Fault.{Fault}}, integrity.{digest.Hash.{Hash}, algorithm.Algorithm.{Algorithm}}}, Paths.{Names, names_of, home_of}, Integrity.{integrity_under}, Texts.{integrity_text}}
+use Rattle.cacache_store.specs.{Plain.{Fits, PlainAnswer}, declared.store.log.LogItem.{LogItem, TheVariants.{Made}}}
+use Rattle.cacache_disk.specs.{declared.{luck.Luck.TheVariants.{Plain}, node.Node.{Node, TheVariants.{Link}}}, Apply.{apply}, Tree.{Rooted, Tree, look}, Replay.{tree_of}}
 use Rattle.cacache_disk.proofs.KeptFolders.{steps_keep_rooted}
 use Rattle.cacache_entry.{specs.FittingEntries.{IsEntry}, proofs.EntryCauses.{Fits-no_cause}}
-use Rattle.cacache_calls.specs.{declared.{command.{Command.{Command}, Put.{Put}}, reply.Reply.{Reply}}, Causes.{HasCause, own_of as faults_of}, Effects.{Commits, Effect, Indexes, Inserts, IsRefused, TookAll, effects_of, sent, stored}, Inserting.{bucket_line, refused_cause}, Runs.{Moves, Runs, plain_reply}, Sound.{FormedIfWritten, Sound}, State.{Insertion, Site, State}, StepPaths.{bucket_path, content_path}, Storing.{insertion_of, put_commit}, Table.{after, opening}, Promises.{Stores}}
-use Rattle.cacache_calls.proofs.{EarnedErrors.{io_errors_have_causes}, Effects.{puts_commit}, Promises.{calls_answer}, Sound.{begins_sound, stays_sound}, IntegrityUtf8.{integrity_utf8}}
-use Rattle.cacache_value.specs.{Acts.{AddEntries, PutBytes}, Kinds.{Elsewhere, path_kind}, OpeningTrees.{LieApart}, Placed.{MayStand, Placed}, Traces.{IsTrace}, Value.{InFile, value_of_tree}}
+use Rattle.cacache_calls.specs.{declared.{command.{Command.{Command}, Put.{Put}}, reply.Reply.{Reply}}, Promises.{HasCause, own_of as faults_of, Stores}, Effects.{Commits, Effect, Indexes, Inserts, IsRefused, TookAll, effects_of, sent, stored}, Inserting.{bucket_line, refused_cause}, Runs.{Moves, Runs, plain_reply}, Sound.{FormedIfWritten, Sound}, State.{Insertion, Site, State}, Steps.{bucket_path, content_path}, Storing.{insertion_of, put_commit}, Table.{after, opening}}
+use Rattle.cacache_calls.proofs.{EarnedErrors.{io_errors_have_causes}, Effects.{puts_commit}, Promises.{calls_answer}, Sound.{begins_sound, stays_sound}, Telling.{integrity_utf8}}
+use Rattle.cacache_value.specs.{Acts.{AddEntries, PutBytes, IsTrace}, Kinds.{Elsewhere, path_kind}, Placed.{LieApart, MayStand, Placed}, Value.{InFile, value_of_tree}}
 use Rattle.cacache_value.proofs.Traces.{steps_keep_placed, traces_act}
 use Rattle.cacache_history.specs.{Commits.{AddsAfter, CommitsAs, Deed, InsertionAdds, IsNotOk, PutsContent, deeds, does, finds}, History.{Turn, turn_of}, Setup.{Setup, call_site, home, is_outside, may_export}, Turns.{EachTurn, made_in}}
-use Rattle.cacache_history.proofs.{Contents.{Carrying.{Carries, Makes, Own, carries_makes, carries_on, opening_carries, own_bytes, own_of}, Deeds.{PutsAt, Realizes, SendsEntry, took_entry, turns_realize}}, Entries.Formed.{TreeFormed}, Histories.Holding.{TurnHolds, TurnsHold}, Proper.{sound_proper}}
+use Rattle.cacache_history.proofs.{Contents.{Carrying.{Carries, Makes, Own, carries_makes, carries_on, opening_carries, own_bytes, own_of}, Deeds.{PutsAt, Realizes, SendsEntry, took_entry, turns_realize}}, Entries.Spelled.{TreeFormed}, Histories.Holding.{TurnHolds, TurnsHold}, StepActs.{sound_proper}}
 use Rattle.cacache_calls.specs.declared.command.Command.TheVariants as commands
 use Rattle.cacache_calls.specs.declared.reply.Reply.TheVariants as replies
 
@@ -179,14 +179,6 @@ module _ (cache : List ℕ) (p : Put) (r : Reply) (old new : List LogItem) (fits
 
 pub standing_writes : StandingWrites
 standing_writes cache p r old new fits expects standing c = stands cache p r old new fits expects standing c
-
--- so does one on a cache
-
-pub puts_leave : PutsLeave
-puts_leave cache p i old new fits expects sound c = (standing_writes cache p (replies.Stored i) old new fits expects (caches_stand cache old sound) c).stored i refl
-
-pub puts_may_lead : PutsMayLead
-puts_may_lead cache p r old new fits expects sound c = (standing_writes cache p r old new fits expects (caches_stand cache old sound) c).may_lead
 
 writes : (a : Algorithm) (cache key bytes : List ℕ) (moment : ℕ) (r : Reply) (old new : List LogItem) → PutStands cache (plain_put a key bytes moment) r old new → IsPlainPut cache key (plain_put a key bytes moment)
     → Stores (put_commit cache (plain_put a key bytes moment)) r → WritesKey cache key bytes r old new

@@ -1,16 +1,40 @@
--- What an insertion and a removal that are done leave in the cache.
-use Rattle.std.proofs.Common.{◌≡◌, inl, inr, Bool, true, false, cond, List, [], ◌∷◌, ◌++◌, Option, None, Some, Result, Ok, Err, refl, sym, ap, subst, ◌∙◌}
+-- Entries without metadata, and what an insertion and a removal that are done leave in the cache.
+use Rattle.std.proofs.Common.{◌≡◌, ℕ, ◌<◌, ◌^◌, List, Option, None, Some, refl, sym, subst, inl, inr, Bool, true, false, cond, [], ◌∷◌, ◌++◌, Result, Ok, Err, ap, ◌∙◌}
+use Rattle.std.specs.Prelude.{IsUtf8}
+use Rattle.cacache_core.specs.{declared.{integrity.{algorithm.Algorithm.{Algorithm}, digest.Hash.{Hash}}, errors.Fault.{Fault}}, Integrity.{integrity_under}, Paths.{Names, names_of, names_below, bucket_names_of}}
+use Rattle.cacache_store.specs.declared.store.log.LogItem.{LogItem}
+use Rattle.cacache_laws.specs.{Caches.{HasContent, HasKey, plain_put}, Beside.{found_under}, Puts.{entry_of_put}, Sequence.{turns_on, tree_on, Alike, after_deeds}, ReadAnswers.{entries_on}, Inserts.{InsertsAdd, DeletesAdd}}
+use Rattle.cacache_entry.{specs.{Entry.{Entry}, FittingEntries.{IsUtf8IfAny, IsEntry, cause_of}, EntryLaws.{bare_entry}}, proofs.EntryCauses.{no_cause_is_fit, bare_entries_fit}}
 use Rattle.sha1.specs.Sha1.{sha1}
-use Rattle.cacache_core.specs.{declared.errors.Fault.{Fault}, PathNames.{Names, names_of, names_below}, Paths.{bucket_names_of}}
 use Rattle.cacache_disk.{specs.Tree.{Tree}, proofs.Roots.{same_self}}
-use Rattle.cacache_entry.specs.Entry.{Entry}
-use Rattle.cacache_calls.specs.{declared.reply.Reply.{Reply}, Inserting.{insertion, deletion}, StepPaths.{bucket_path}, State.{Insertion}}
-use Rattle.cacache_calls.specs.declared.command.Command.TheVariants as commands
-use Rattle.cacache_calls.specs.declared.reply.Reply.TheVariants as replies
+use Rattle.cacache_calls.specs.{declared.reply.Reply.{Reply}, Inserting.{insertion, deletion}, Steps.{bucket_path}, State.{Insertion}}
 use Rattle.cacache_value.specs.{Kinds.{is_path_of}, Value.{Value, value_of_tree}, Acts.{change, list_of}}
 use Rattle.cacache_history.specs.{Setup.{Setup, call_site, home}, Commits.{Deed, does, finds, deeds, IsAdded, IsNotOk, InsertionAdds, IsCase}}
 use Rattle.cacache_history.proofs.Histories.ShownTurns.{bucket_below}
-use Rattle.cacache_laws.specs.{Sequence.{turns_on, tree_on, Alike, after_deeds}, ReadAnswers.{entries_on}, Stored.{InsertsAdd, DeletesAdd}}
+use Rattle.cacache_calls.specs.declared.command.Command.TheVariants as commands
+use Rattle.cacache_calls.specs.declared.reply.Reply.TheVariants as replies
+
+-- what holds of an entry that can be written
+pub record Written (e : Entry) : Type 0 where
+  pub formed : IsEntry e
+  pub no_cause : cause_of e ≡ None
+
+pub bare_written : (key : List ℕ) (integrity : Option (List ℕ)) (time size : ℕ) → IsUtf8 key → IsUtf8IfAny integrity → time < 2 ^ 64 → size < 2 ^ 64 → Written (bare_entry key integrity time size)
+bare_written key integrity time size utf8 spelled early small =
+    let e = bare_entries_fit key integrity time size utf8 spelled early small in
+    record { formed = e.0; no_cause = (no_cause_is_fit (bare_entry key integrity time size) e.0).1 e.1 }
+
+pub keyed_formed : (P : List ℕ → Type 0) (key k : List ℕ) → Some key ≡ Some k → P key → P k
+keyed_formed P key k e h = let same : key ≡ k = cc in subst P same h
+
+-- a put whose entry leads to the integrity of its bytes, which lie there
+pub has_key : (a : Algorithm) (cache key bytes : List ℕ) (moment : ℕ) (i : List Hash) (new : List LogItem) → i ≡ integrity_under a bytes → found_under cache key new ≡ Some (entry_of_put cache (plain_put a key bytes moment) key)
+    → HasContent cache (integrity_under a bytes) bytes new → HasKey cache key i bytes new
+has_key a cache key bytes moment i new is leads content =
+    let has : HasKey cache key (integrity_under a bytes) bytes new = record { found = entry_of_put cache (plain_put a key bytes moment) key; finds = leads; integrity = refl; content = content } in
+    subst (λ j. HasKey cache key j bytes new) (sym is) has
+
+-- ---- what an insertion and a removal that are done leave in the cache
 
 -- a path that names these below the cache is the path of these names in its folder
 pub below_is : (folder : Option Names) (names all : Names) (r : Result Names Fault) → r ≡ names_below folder names → r ≡ Ok all → is_path_of folder names all ≡ true

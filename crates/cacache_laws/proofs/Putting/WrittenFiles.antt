@@ -1,10 +1,10 @@
 -- A path shows the file that was written at its end.
 -- What steps that are done make: new folders keep what is there, and a file can be put into them.
 use Rattle.std.proofs.{lemmas.Grind.{common_steps}, Common.{rules, ◌≡◌, ℕ, zero, suc, Bool, true, false, cond, List, [], ◌∷◌, ◌++◌, Option, None, Some, Result, Ok, Err, refl, sym, ap, subst, ◌∙◌, length, take, arith, append_assoc}}
-use Rattle.cacache_core.specs.{declared.errors.Fault.{Fault}, PathNames.{Names, names_of}}
-use Rattle.cacache_disk.specs.{declared.{node.Node.{Node, TheVariants.{Folder, File, Link}}, luck.Luck.TheVariants.{Plain}}, Apply.{apply, unless, make_some, grown, taken, made_temp}, LedTo.{and_then, or_fault, way_fault, through, bytes_there, on_link, place, standing, followed, leads, file_at, writable, where_there, where_no_folder, free, known, kept, replaceable, dirs, dirs_fault}, Tree.{Tree, look, put, same_path}, memory.Replay.{bytes_told, shown}, Rooted.{Rooted}}
+use Rattle.cacache_disk.specs.{LedTo.{where_free, and_then, or_fault, way_fault, through, bytes_there, on_link, place, standing, followed, leads, file_at, writable, where_there, where_no_folder, free, known, kept, replaceable, dirs, dirs_fault}, declared.{node.Node.{Node, TheVariants.{Folder, File, Link}}, luck.Luck.TheVariants.{Plain}}, Apply.{apply, unless, make_some, grown, taken, made_temp}, Tree.{Tree, look, put, same_path, Rooted}, Replay.{bytes_told, shown}}
 use Rattle.cacache_disk.proofs.{Maps.{same_path-true}, PutNodes.{look-put}, Roots.{same_self}, FoundNodes.{or_fault_none, and_then_ok, free_ok}, PlantedNodes.{full}, Standing.{upper_folder}}
-use Rattle.cacache_laws.proofs.trees.Within.{through_none}
+use Rattle.cacache_core.specs.{declared.errors.Fault.{Fault}, Paths.{Names, names_of}}
+use Rattle.cacache_laws.proofs.trees.Stepping.{through_none}
 use Rattle.cacache_store.specs.declared.store.plain.PlainTemp.{PlainTemp}
 use Rattle.cacache_value.specs.{Kinds.{Content}, Placed.{MayStand}}
 use Rattle.cacache_loss.proofs.StepCases.{make_keeps}
@@ -227,3 +227,14 @@ unfolding apply
 persisted_so home t file path names s leads suits =
     let is_known : known file.bytes ≡ Ok s.bytes = ap known s.known_to_be in
     rw (is_known, kept_so t file s, replaceable_so home t path names leads suits) refl
+
+-- ---- a path with nothing at it
+
+-- a file can be written there
+pub free_writable : (t : Tree) (path : List ℕ) (end : Names) → free t path ≡ Ok end → writable t path ≡ Ok end
+unfolding free writable leads followed
+free_writable t path end = search rules
+
+-- and shows it then
+pub put_shown : (t : Tree) (path bytes : List ℕ) (end : Names) → free t path ≡ Ok end → shown (put t end (File bytes)) path ≡ Some bytes
+put_shown t path bytes end e = written_shown t path bytes end (free_writable t path end e)

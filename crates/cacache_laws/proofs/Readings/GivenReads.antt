@@ -2,16 +2,16 @@
 -- What is known of a cache stays while it holds the same, and a lookup finds what its key leads to.
 -- A question whether a content is there is answered by what the cache has.
 use Rattle.std.proofs.{Common.{arith, rules, ◌≡◌, inl, inr, ℕ, Bool, true, false, cond, List, [], Option, None, Some, Result, Ok, Err, refl, sym, ap, subst, ◌∙◌, ◌⊎◌, ◌∷◌}, lemmas.Grind.{common_steps}}
-use Rattle.cacache_core.specs.{declared.{errors.{Error.{TheVariants.{EntryNotFound, IoError, IntegrityError, OutOfMemory}, Error}, Fault.{Fault}, IntegrityFault.TheVariants.{Check}}, integrity.digest.Hash.{Hash}}, Integrity.{Meets, actual}, Meeting.{meets}, PathNames.{home_of}}
+use Rattle.cacache_laws.specs.{Caches.{AStepFailed, Called, IsCache, IsExcused, setup_at, ReadsKey, lies_under}, Beside.{found_under}, Looks.{bytes_under, GivesHeld, GivesOfKey, SameStaysKnown, GivesFound}, ReadAnswers.{UnlessFailed, read_on, get_on}, CallErrors.{FailsOnly}, Sequence.{turns_on}}
+use Rattle.cacache_laws.proofs.{Readings.{Known.{Known, known, excuse, answered}, Standing.{caches_stand, standing_reads}, ReadAnswers.{no_moves}}, Putting.Deeds.{stays_known}}
+use Rattle.cacache_core.specs.{Integrity.{IsIntegrity, Meets, actual}, declared.{errors.{Error.{TheVariants.{EntryNotFound, IoError, IntegrityError, OutOfMemory}, Error}, Fault.{Fault}, IntegrityFault.TheVariants.{Check}}, integrity.digest.Hash.{Hash}}, Matching.{meets}, Paths.{home_of}}
 use Rattle.cacache_core.proofs.Meeting.{meets_finds}
 use Rattle.cacache_store.specs.{declared.store.log.LogItem.{LogItem}, Plain.{PlainStep, PlainAnswer}}
-use Rattle.cacache_disk.specs.{memory.Replay.{tree_of}, declared.luck.Luck.TheVariants.{Plain}, Tree.{Tree}, Apply.{apply}}
-use Rattle.cacache_entry.specs.Latest.{Found}
-use Rattle.cacache_calls.specs.{declared.{command.Command.{Command}, reply.Reply.{Reply}}, Causes.{own_of, Faults, Faulted}, Replies.{content_reply, there_reply}, Runs.{plain_reply, Moves}, Answers.{there_in}}
-use Rattle.cacache_history.specs.{ShownTurns.{as_refusal, unless_failed, there_read}, History.{Turn, turn_of}, TurnReplies.{AsksHeld, ReadsValue}}
-use Rattle.cacache_value.specs.{Shows.{blob_bytes, blob_there}, Acts.{list_of}, Value.{Blob, InFile}}
-use Rattle.cacache_laws.specs.{Caches.{IsExcused, setup_at, HasContent, GivesBytes, ReadsKey, ReadsContent, FindsNone, ReadsNone, HasKey, GivesEntry, FindsKey, lies_under, SaysThere, AsksWhetherHeld}, Keeping.{found_under}, Looks.{bytes_under, GivesHeld, ContentReadsGive, GivesLed, GivesOfKey, KeyReadsGive, SameStaysKnown, GivesFound, FindsFound, SaysAbsent, AsksAbsent}, ReadAnswers.{UnlessFailed, read_on, get_on}, CallErrors.{FailsOnly}, Sequence.{turns_on}}
-use Rattle.cacache_laws.proofs.{Readings.{Known.{Known, known, excuse, answered, content_stays, key_stays}, Looks.{looks_keep}, Standing.{caches_stand, standing_reads}, ReadAnswers.{no_moves}}, Putting.Deeds.{stays_known}}
+use Rattle.cacache_disk.specs.{Replay.{tree_of}, declared.luck.Luck.TheVariants.{Plain}, Tree.{Tree}, Apply.{apply}}
+use Rattle.cacache_entry.specs.Bucket.{Found}
+use Rattle.cacache_calls.specs.{declared.{command.Command.{Command}, reply.Reply.{Reply}}, Promises.{own_of, Faults, Faulted}, Replies.{content_reply, there_reply}, Runs.{plain_reply, Moves}, Answers.{there_in}}
+use Rattle.cacache_history.specs.{Turns.{as_refusal, unless_failed, there_read}, History.{Turn, turn_of}, TurnReplies.{AsksHeld, ReadsValue}}
+use Rattle.cacache_value.specs.{Shows.{blob_there}, Acts.{list_of}, Value.{Blob}}
 use Rattle.cacache_calls.specs.declared.command.Command.TheVariants as commands
 use Rattle.cacache_calls.specs.declared.reply.Reply.TheVariants as replies
 use Rattle.cacache_store.specs.declared.store.answer.Answer.TheVariants as answers
@@ -47,7 +47,9 @@ module _ (cache base : List ℕ) (command : Command) (old new : List LogItem) (n
   gives_held i (damaged bytes is unmet) (replies.Refused (IntegrityError f)) k h = (bytes, is, unmet, cc)
   gives_held i other another k h = absurd cc
 
-pub content_reads_give : ContentReadsGive
+-- what a read by integrity answers, whatever the cache holds
+pub content_reads_give : (cache : List ℕ) (i : List Hash) (r : Reply) (old new : List LogItem) → IsIntegrity i → IsCache cache old
+    → Called cache (commands.GetHash i) r old new → GivesHeld cache i r old new
 content_reads_give cache i r old new formed sound c =
     let command = commands.GetHash i in
     let k = known cache (commands.GetHash i) r old new c tt formed sound in
@@ -69,7 +71,9 @@ module _ (cache base key : List ℕ) (old new : List LogItem) where
   gives_of_key None finds r k h = gives_none finds r k h
   gives_of_key (Some found) finds r k h = search (rules, gives_led, gives_held, to_answer)
 
-pub key_reads_give : KeyReadsGive
+-- what a read by key answers
+pub key_reads_give : (cache key : List ℕ) (r : Reply) (old new : List LogItem) → IsCache cache old
+    → Called cache (commands.Get key) r old new → GivesOfKey cache key r old new
 key_reads_give cache key r old new sound c =
     let k = known cache (commands.Get key) r old new c tt tt sound in
     let expected = get_on (setup_at cache c.base) (tree_of old) key (found_under cache key old) in
@@ -81,41 +85,6 @@ pub reads_key : ReadsKey
 reads_key cache key bytes i r old new sound has c =
     ((known cache (commands.Get key) r old new c tt tt sound).sound, standing_reads cache key bytes i r old new (caches_stand cache old sound) has c)
 
-pub reads_content : ReadsContent
-reads_content cache bytes i r old new sound has c =
-    ((known cache (commands.GetHash i) r old new c tt has.formed sound).sound, by r (content_reads_give cache i r old new has.formed sound c))
-  where
-    held : bytes_under cache i old ≡ Ok bytes
-    held = ap (blob_bytes (tree_of old)) has.content
-
-    by : (q : Reply) → GivesHeld cache i q old new → GivesBytes (HasContent cache i bytes new) bytes q old new
-    by (replies.Read b) h =
-        let same : ◌≡◌ {A = Result (List ℕ) Fault} (Ok b) (Ok bytes) = sym h.0 ∙ held in
-        (cc, content_stays cache bytes i old new (looks_keep cache (commands.GetHash i) r old new tt c) has)
-    by (replies.Refused OutOfMemory) h = inl refl
-    by (replies.Refused (IoError fault message)) h = h
-    by (replies.Refused (IntegrityError fault)) h =
-        let same : ◌≡◌ {A = Result (List ℕ) Fault} (Ok h.0) (Ok bytes) = sym h.1 ∙ held in
-        let is : h.0 ≡ bytes = cc in
-        absurd (h.2 (subst (Meets i) (sym is) has.meets))
-    by other h = absurd h
-
-pub reads_none : ReadsNone
-reads_none cache key r old new sound lacks c =
-    ((known cache (commands.Get key) r old new c tt tt sound).sound, by r (key_reads_give cache key r old new sound c))
-  where
-    led : (q : Reply) → GivesLed cache key q old new → FindsNone cache key q old new
-    led q h = let no : None ≡ Some h.0 = sym lacks ∙ h.1 in absurd cc
-
-    by : (q : Reply) → GivesOfKey cache key q old new → FindsNone cache key q old new
-    by (replies.Refused (EntryNotFound d k)) h =
-        let one : d ≡ cache = h.0 in
-        let two : k ≡ key = h.1 in
-        inl cc
-    by (replies.Refused (IoError fault message)) h = inr h
-    by (replies.Refused OutOfMemory) h = inr (inl refl)
-    by q h = led q h
-
 pub same_stays_known : SameStaysKnown
 same_stays_known cache old new same = stays_known cache old new (record { contents = λ a. ap (λ v. v.contents a) same; lists = λ d. ap (λ v. list_of (v.buckets d)) same })
 
@@ -126,40 +95,19 @@ gives_found : (cache base key : List ℕ) (there : Option Found) (old new : List
     → UnlessFailed (replies.LookedUp there) (plain_reply r) → GivesFound there r old new
 gives_found cache base key there old new r k h = grind (arith, excuse, fails_for)
 
-pub finds_found : FindsFound
+-- a lookup finds what the key leads to, or nothing if the key leads to nothing
+pub finds_found : (cache key : List ℕ) (r : Reply) (old new : List LogItem) → IsCache cache old → Called cache (commands.Find key) r old new
+    → GivesFound (found_under cache key old) r old new
 finds_found cache key r old new sound c =
     let k = known cache (commands.Find key) r old new c tt tt sound in
     let expected = replies.LookedUp (found_under cache key old) in
     gives_found cache c.base key (found_under cache key old) old new r k (answered cache c.base (commands.Find key) expected r old new k refl)
-
-entry_found : (cache key bytes : List ℕ) (i : List Hash) (old new : List LogItem) → HasKey cache key i bytes old → HasKey cache key i bytes new → (r : Reply) → GivesFound (found_under cache key old) r old new
-    → GivesEntry (HasKey cache key i bytes new) i r old new
-entry_found cache key bytes i old new has stays (replies.LookedUp (Some f)) h =
-    let found : Some f ≡ Some has.found = h ∙ has.finds in
-    let same : f ≡ has.found = cc in
-    (ap (λ (x : Found). x.integrity) same ∙ has.integrity, stays)
-entry_found cache key bytes i old new has stays (replies.LookedUp None) h = let no : None ≡ Some has.found = h ∙ has.finds in absurd cc
-entry_found cache key bytes i old new has stays (replies.Refused e) h = h
-entry_found cache key bytes i old new has stays other h = absurd h
-
-pub finds_key : FindsKey
-finds_key cache key bytes i r old new sound has c =
-    let stays = key_stays cache key bytes i old new (looks_keep cache (commands.Find key) r old new tt c) has in (
-      (known cache (commands.Find key) r old new c tt tt sound).sound,
-      entry_found cache key bytes i old new has stays r (finds_found cache key r old new sound c),
-    )
 
 -- the one step of a question, and the reply by its answer
 record Asked (t : Tree) (blob : Option Blob) (moves : Moves) (r : Reply) : Type 0 where
   pub move : PlainStep × PlainAnswer
   pub only : moves ≡ move ∷ []
   pub reply : r ≡ there_reply (unless_failed move.1 (there_in (blob_there t blob)))
-
--- a reply to a question
-abbrev IsSaid : Reply → Type 0
-IsSaid (replies.Exists there) = Unit {0}
-IsSaid (replies.Refused e) = Unit {0}
-IsSaid r = ⊥
 
 module _ (cache base : List ℕ) (i : List Hash) (blob : Option Blob) (old : List LogItem) (lies : lies_under cache i old ≡ blob) where
   asked : (moves : Moves) (r : Reply) → AsksHeld (setup_at cache base) i (turns_on (tree_of old) moves) r → Asked (tree_of old) blob moves r
@@ -188,66 +136,31 @@ module _ (cache base : List ℕ) (i : List Hash) (blob : Option Blob) (old : Lis
         | inr h ↦ inr (asked k.call.moves (plain_reply r) (subst (λ x. AsksHeld (setup_at cache base) i (turns_on (tree_of old) k.call.moves) (plain_reply x)) k.reply_is h))
       ]
 
--- ---- a content that is there
+-- a no about a content that is there comes from a failed step, and an error from want of memory
+abbrev pub Says : Bool → Type 0 → Reply → Type 0
+Says held Failed (replies.Exists there) = (there ≡ held) ⊎ ((there ≡ false) × Failed)
+Says held Failed (replies.Refused e) = e ≡ OutOfMemory
+Says held Failed r = ⊥
 
-module _ (cache base bytes : List ℕ) (i : List Hash) (old new : List LogItem) (stays : HasContent cache i bytes new) where
-  -- a no comes from a failed step, and an error is out of memory
-  failed_so : (step : PlainStep) (a : PlainAnswer) → replies.Exists false ≡ there_reply (unless_failed a (Ok true)) → (fault : Fault) × Faults step a fault
-  failed_so step (answers.Failed fault) e = (fault, refl)
-  failed_so step a e = absurd cc
+says_by : (held : Bool) (Failed : Type 0) (step : PlainStep) (a : PlainAnswer) → ((fault : Fault) → Faults step a fault → Failed)
+    → Says held Failed (there_reply (unless_failed a (Ok held)))
+says_by held Failed step (answers.Failed fault) fails = inr (refl, fails fault refl)
+says_by held Failed step a fails = grind (arith, common_steps)
 
-  lost_so : (e : Error) (a : PlainAnswer) → plain_reply (replies.Refused e) ≡ there_reply (unless_failed a (Ok true)) → plain_reply (replies.Refused e) ≡ replies.Refused OutOfMemory
-  lost_so e a is = grind (arith, common_steps)
+plainly_said : (held : Bool) (Failed : Type 0) (r : Reply) → Says held Failed (plain_reply r) → Says held Failed r
+plainly_said held Failed r h = grind (arith, common_steps)
 
-  memory_so : (e : Error) → plain_reply (replies.Refused e) ≡ replies.Refused OutOfMemory → e ≡ OutOfMemory
-  memory_so e is = grind (arith, common_steps)
-
-  -- no reply of another kind comes of it
-  kind_so : (a : PlainAnswer) → IsSaid (there_reply (unless_failed a (Ok true)))
-  kind_so a = grind (arith, common_steps)
-
-  no_other : (r : Reply) (a : PlainAnswer) → r ≡ there_reply (unless_failed a (Ok true)) → IsSaid r
-  no_other r a e = subst IsSaid (sym e) (kind_so a)
-
-  says : (r : Reply) (k : Known cache base (commands.Exists i) r old new) → Asked (tree_of old) (Some (InFile bytes)) k.call.moves (plain_reply r) → SaysThere (HasContent cache i bytes new) r old new
-  says (replies.Exists true) k a = stays
-  says (replies.Exists false) k a =
-      let f = failed_so a.move.0 a.move.1 a.reply in
-      (k.call.moves, k.gained, f.0, subst (λ moves. Faulted moves f.0) (sym a.only) (inl f.1))
-  says (replies.Refused e) k a = inl (memory_so e (lost_so e a.move.1 a.reply))
-  says (replies.Listed items) k a = absurd (no_other (plain_reply (replies.Listed items)) a.move.1 a.reply)
-  says r k a = absurd (no_other r a.move.1 a.reply)
-
-  lost : (r : Reply) → r ≡ replies.Refused OutOfMemory → SaysThere (HasContent cache i bytes new) r old new
-  lost r e = subst (λ x. SaysThere (HasContent cache i bytes new) x old new) (sym e) (inl refl)
-
-pub asks_content : AsksWhetherHeld
-asks_content cache bytes i r old new sound has c =
-    let k = known cache (commands.Exists i) r old new c tt has.formed sound in
-    let stays = content_stays cache bytes i old new (looks_keep cache (commands.Exists i) r old new tt c) has in (
-      k.sound,
-      elim (call_asked cache c.base i (Some (InFile bytes)) old has.content r new k) [
-        | inl e ↦ lost cache c.base bytes i old new stays r e
-        | inr a ↦ says cache c.base bytes i old new stays r k a
-      ],
-    )
-
--- ---- a content that isn't there
-
--- no answer to the step makes a yes of it, or another reply
-abbrev SaysNo : PlainAnswer → Type 0
-SaysNo a = SaysAbsent (there_reply (unless_failed a (Ok false)))
-
-never_yes : (a : PlainAnswer) → SaysNo a
-never_yes a = grind (arith, common_steps)
-
-plainly_absent : (r : Reply) → SaysAbsent (plain_reply r) → SaysAbsent r
-plainly_absent r h = grind (arith, common_steps)
-
-pub asks_absent : AsksAbsent
-asks_absent cache i r old new sound formed none c =
+-- what a question answers, by whether something is there
+pub asks_held : (held : Bool) (cache : List ℕ) (i : List Hash) (blob : Option Blob) (r : Reply) (old new : List LogItem) → IsCache cache old
+    → IsIntegrity i → lies_under cache i old ≡ blob → there_in (blob_there (tree_of old) blob) ≡ Ok held
+    → Called cache (commands.Exists i) r old new → Says held (AStepFailed old new) r
+asks_held held cache i blob r old new sound formed lies there c =
     let k = known cache (commands.Exists i) r old new c tt formed sound in
-    elim (call_asked cache c.base i None old none r new k) [
-      | inl e ↦ subst SaysAbsent (sym e) refl
-      | inr a ↦ plainly_absent r (subst SaysAbsent (sym a.reply) (never_yes a.move.1))
+    elim (call_asked cache c.base i blob old lies r new k) [
+      | inl e ↦ subst (Says held (AStepFailed old new)) (sym e) refl
+      | inr a ↦
+          let reply = a.reply ∙ ap (λ x. there_reply (unless_failed a.move.1 x)) there in
+          plainly_said held (AStepFailed old new) r
+          (subst (Says held (AStepFailed old new)) (sym reply)
+          (says_by held (AStepFailed old new) a.move.0 a.move.1 (λ fault f. (k.call.moves, k.gained, fault, subst (λ moves. Faulted moves fault) (sym a.only) (inl f)))))
     ]

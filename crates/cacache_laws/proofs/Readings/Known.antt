@@ -1,16 +1,16 @@
 -- What is known of a call that was made on a cache in a store in memory.
 -- What reads answer by what a cache has, and that it stays.
 use Rattle.std.proofs.{Common.{arith, rules, ◌≡◌, inl, inr, ℕ, List, [], ◌++◌, map, refl, sym, subst, Some, ap, ◌∙◌}, lemmas.Grind.{common_steps}}
-use Rattle.cacache_core.specs.{declared.{errors.{Error.{Error, TheVariants.{IoError, OutOfMemory}}, Fault.{Fault}}, integrity.digest.Hash.{Hash}}, PathNames.{home_of}, Integrity.{address}}
+use Rattle.cacache_core.specs.{declared.{errors.{Error.{Error, TheVariants.{IoError, OutOfMemory}}, Fault.{Fault}}, integrity.digest.Hash.{Hash}}, Paths.{home_of}, Integrity.{address}}
 use Rattle.cacache_store.specs.declared.store.log.LogItem.{LogItem, TheVariants.{Made}}
-use Rattle.cacache_disk.specs.{Tree.{bare}, memory.Replay.{tree_of}}
-use Rattle.cacache_calls.specs.{declared.{command.Command.{Command}, reply.Reply.{Reply}}, Causes.{HasCause, own_of}, Runs.{Moves, Runs, plain_reply}, Sound.{MayBegin}, Table.{opening}}
+use Rattle.cacache_disk.specs.{Tree.{bare}, Replay.{tree_of}}
+use Rattle.cacache_calls.specs.{declared.{command.Command.{Command}, reply.Reply.{Reply}}, Promises.{HasCause, own_of}, Runs.{Moves, Runs, plain_reply}, Sound.{MayBegin}, Table.{opening}}
 use Rattle.cacache_value.{proofs.OpeningTrees.{files_open}, specs.Acts.{list_of}}
-use Rattle.cacache_history.specs.{Setup.{call_site, may_export, is_outside}, History.{NamesIntegrity}, ShownTurns.{blob_at}}
-use Rattle.cacache_laws.specs.{Sequence.{SequenceCall, IsMadeOn, tree_on, CallIsAnswered}, CallErrors.{FailsOnly}, Caches.{IsCache, IsExcused, Called, setup_at, FreshIsEmpty, CachesLast, HasContent, HasKey}, ReadAnswers.{reply_on, UnlessFailed}, Looks.{HoldsSame}}
+use Rattle.cacache_history.specs.{Setup.{call_site, may_export, is_outside}, History.{NamesIntegrity}, Turns.{blob_at}}
+use Rattle.cacache_laws.specs.{Sequence.{SequenceCall, IsMadeOn, tree_on, CallIsAnswered}, CallErrors.{FailsOnly}, Caches.{IsCache, IsExcused, Called, setup_at, FreshIsEmpty, HasContent, HasKey}, ReadAnswers.{reply_on, UnlessFailed}, Looks.{HoldsSame}}
 use Rattle.cacache_laws.proofs.{Calls.Sequence.{openings_are_sound, calls_answer_alone}, Readings.ReadAnswers.{replies_follow}}
 use Rattle.sha1.specs.Sha1.{sha1}
-use Rattle.cacache_entry.specs.Latest.{latest}
+use Rattle.cacache_entry.specs.Bucket.{latest}
 use Rattle.cacache_calls.specs.declared.reply.Reply.TheVariants as replies
 
 pub fresh_is_empty : FreshIsEmpty
@@ -55,7 +55,10 @@ module _ (cache : List ℕ) (command : Command) (r : Reply) (old new : List LogI
         leads = a.2;
       }
 
-pub caches_last : CachesLast
+-- a call that may begin leaves a cache on which calls may be made
+pub caches_last : (cache : List ℕ) (command : Command) (r : Reply) (old new : List LogItem) (c : Called cache command r old new)
+    → MayBegin (call_site (setup_at cache c.base) c.number) (may_export (setup_at cache c.base)) (is_outside (setup_at cache c.base)) command
+    → NamesIntegrity command → IsCache cache old → IsCache cache new
 caches_last cache command r old new c may named sound = (known cache command r old new c may named sound).sound
 
 -- a failure has its cause among these steps, if the call has no fault of its own

@@ -1,19 +1,27 @@
--- Calls that only look leave the tree.
--- What the first deed of a call finds was there before the call.
-use Rattle.std.{proofs.{Common.{arith, ◌≡◌, ℕ, [], ◌∷◌, ◌++◌, Option, refl, sym, ap, subst, ◌∙◌, true, List, append_assoc}, lemmas.Grind.{common_steps}}, specs.Prelude.{map}}
-use Rattle.cacache_core.specs.{PathNames.{Names, home_of}, declared.integrity.digest.Hash.{Hash}, Integrity.{IsHash}}
-use Rattle.cacache_store.specs.{declared.store.log.LogItem.TheVariants.{Made}, Plain.{PlainStep, PlainAnswer}}
-use Rattle.cacache_disk.specs.{declared.luck.Luck.TheVariants.{Plain}, Tree.{Tree, bare}, Apply.{apply}, memory.Replay.{replay, tree_of}}
-use Rattle.cacache_calls.specs.{declared.reply.Reply.{Reply}, Runs.{Moves, Runs}, State.{State, Site}, Table.{after}, Licence.{May, allows, looking_on, AllMay}, StepPaths.{content_path}}
+-- Calls that only look leave the tree, and a lookup finds the entry that was added last.
+use Rattle.std.proofs.{Common.{rules, ◌≡◌, ℕ, cond, List, [], ◌∷◌, ◌++◌, Option, None, Some, refl, ap, ◌∙◌, arith, sym, subst, true, append_assoc}, lemmas.{Slice.Eq.{bytes_eq-Decides}, Grind.{common_steps}}}
+use Rattle.std.specs.Prelude.{bytes_eq, map}
+use Rattle.cacache_entry.{specs.{Entry.{Entry}, Bucket.{Found, answer_of, latest}}, proofs.Lookups.{last_answer_decides}}
+use Rattle.cacache_store.specs.{declared.store.log.LogItem.{LogItem, TheVariants.{Made}}, Plain.{PlainStep, PlainAnswer}}
+use Rattle.cacache_laws.specs.{Caches.{Called}, Looks.{OnlyLooks, HoldsSame}, Sequence.{tree_on, turns_on, AreAnswered, IsSound, plain_moves}}
+use Rattle.cacache_laws.proofs.{Readings.ReadAnswers.{reading_keeps, listing_keeps, asking_keeps, opening_keeps, piece_keeps, sizing_keeps}, Calls.Replays.{some_same, replay_more, moves_lead}}
+use Rattle.cacache_calls.specs.{declared.{command.Command.{Command}, reply.Reply.{Reply}}, Runs.{Moves, Runs}, State.{State, Site}, Table.{after}, Licence.{May, allows, looking_on, AllMay}, Steps.{content_path}}
 use Rattle.cacache_calls.proofs.Within.{calls_keep_to}
-use Rattle.cacache_value.specs.{Value.{value_of_tree, Value, wide_value}, Acts.{Act, PutBytes, PutLink, AddEntries, Drop, act_of, change}, Placed.{Placed}, Traces.{IsTrace}}
+use Rattle.cacache_core.specs.{Paths.{Names, home_of}, declared.integrity.digest.Hash.{Hash}, Integrity.{IsHash}}
+use Rattle.cacache_disk.specs.{declared.luck.Luck.TheVariants.{Plain}, Tree.{Tree, bare}, Apply.{apply}, Replay.{replay, tree_of}}
+use Rattle.cacache_value.specs.{Value.{value_of_tree, Value, wide_value}, Acts.{Act, PutBytes, PutLink, AddEntries, Drop, act_of, change, IsTrace}, Placed.{Placed}}
 use Rattle.cacache_value.proofs.Traces.{steps_act, steps_keep_placed}
 use Rattle.cacache_history.specs.{Setup.{Setup, home}, Turns.{EachTurn}, History.{turn_of}, Commits.{Deed, finds, deeds_of_act, finds_in, deeds}, Values.{IsThere}}
 use Rattle.cacache_history.proofs.{Histories.{Holding.{TurnsHold, TurnHolds}, ShownTurns.{there_at}}, Entries.AddedEntries.{blob_is}}
-use Rattle.cacache_laws.specs.{Sequence.{tree_on, turns_on, AreAnswered, IsSound, plain_moves}, Looks.{LooksKeep, LooksLeave}}
-use Rattle.cacache_laws.proofs.{Readings.ReadAnswers.{reading_keeps, listing_keeps, asking_keeps, opening_keeps, piece_keeps, sizing_keeps}, Calls.{Logs.{some_same}, Replays.{replay_more, moves_lead}}}
 use Rattle.cacache_store.specs.declared.store.step.Step.TheVariants as steps
 use Rattle.cacache_store.specs.declared.store.answer.Answer.TheVariants as answers
+
+same_key : (key : List ℕ) (x : Option (Option Found)) → cond (bytes_eq key key) x None ≡ x
+same_key key x = ap (λ b. cond b x None) ((bytes_eq-Decides key key).1 refl)
+
+pub finds_last : (key : List ℕ) (e : Entry) (found : Option Found) (before entries : List Entry) → e.key ≡ key → answer_of e e.integrity ≡ Some found → entries ≡ before ++ e ∷ []
+    → latest key entries ≡ found
+finds_last key e found before entries mine is all = search (rules, last_answer_decides, same_key)
 
 -- ---- steps that leave the tree
 
@@ -38,7 +46,9 @@ run_turns x t s (m ∷ moves) r sound may run answered = (
   run_turns x (apply t m.0 Plain).1 (after s m.1) moves r (subst (IsSound (home x)) (sym (step_leaves t m.0 may.0)) sound) may.1 run.2 answered.1,
 )
 
-pub tree_stays : LooksLeave
+-- a call that only looks leaves the whole tree: other caches too, and files apart from them
+pub tree_stays : (cache : List ℕ) (command : Command) (r : Reply) (old new : List LogItem) → OnlyLooks command
+    → Called cache command r old new → tree_of new ≡ tree_of old
 unfolding tree_of
 tree_stays cache command r old new looks c =
     let site : Site = record { cache = cache; base = c.base; number = c.number } in
@@ -47,7 +57,9 @@ tree_stays cache command r old new looks c =
     ∙ moves_lead (replay bare old) c.ran.0
     ∙ moves_keep (replay bare old) c.ran.0 (calls_keep_to looking_on site command c.ran.0 r looks c.ran.1)
 
-pub looks_keep : LooksKeep
+-- so it leaves what the cache holds
+pub looks_keep : (cache : List ℕ) (command : Command) (r : Reply) (old new : List LogItem) → OnlyLooks command
+    → Called cache command r old new → HoldsSame cache old new
 looks_keep cache command r old new looks c = ap (value_of_tree (home_of cache)) (tree_stays cache command r old new looks c)
 
 -- an act whose deeds aren't first leaves contents

@@ -1,22 +1,22 @@
 -- What the opening of a reader finds in a cache, and that it leaves the tree.
 use Rattle.std.proofs.{lemmas.{Grind.{common_steps}, List.Elements.{All-head}}, Common.{rules, ◌≡◌, ◌⊎◌, inl, inr, ℕ, List, [], ◌∷◌, ◌++◌, Option, None, Some, Result, Ok, Err, map, refl, sym, ap, subst, ◌∙◌, arith}}
-use Rattle.cacache_core.specs.{declared.{errors.{Error.{Error, TheVariants.{EntryNotFound, IoError, OutOfMemory}}, Fault.{Fault}}, integrity.digest.Hash.{Hash}}, Integrity.{IsHash}, PathNames.{home_of}}
+use Rattle.cacache_core.specs.{declared.{errors.{Error.{Error, TheVariants.{EntryNotFound, IoError, OutOfMemory}}, Fault.{Fault}}, integrity.digest.Hash.{Hash}}, Integrity.{IsHash}, Paths.{home_of}}
 use Rattle.cacache_core.specs.declared.errors.Fault.TheVariants as faults
 use Rattle.cacache_store.specs.declared.store.answer.Answer.TheVariants as answers
 use Rattle.cacache_store.specs.{declared.store.{log.LogItem.{LogItem, TheVariants.{Made}}, plain.PlainFile.{PlainFile}}, Plain.{PlainAnswer}}
 use Rattle.cacache_store.specs.declared.store.step.Step.TheVariants as steps
-use Rattle.cacache_disk.specs.{declared.luck.Luck.TheVariants.{Plain}, Tree.{Tree, bare}, Apply.{apply, opened}, memory.Replay.{after, IsReplayable, tree_of, IsLog}}
-use Rattle.cacache_entry.specs.Latest.{Found, latest}
+use Rattle.cacache_disk.specs.{declared.luck.Luck.TheVariants.{Plain}, Tree.{Tree, bare}, Apply.{apply, opened}, Replay.{after, IsReplayable, tree_of, IsLog}}
+use Rattle.cacache_entry.specs.Bucket.{Found, latest}
 use Rattle.cacache_calls.specs.declared.command.Command.TheVariants as commands
-use Rattle.cacache_calls.specs.{declared.{reply.Reply.{Reply}, carried.Lookup.{Lookup}}, Answers.{bytes_in}, Looking.{found_in, found_for, no_bucket, after_bucket}, StepPaths.{bucket_path, content_path}, Runs.{Moves, Runs, Gains, plain_reply, without_message}, State.{State, looking, over}, SingleSteps.{FailsAt}}
-use Rattle.cacache_calls.proofs.Branches.{go_on_leads}
+use Rattle.cacache_calls.specs.{declared.{reply.Reply.{Reply}, carried.Lookup.{Lookup}}, Answers.{bytes_in}, Reading.{found_in, found_for, no_bucket, after_bucket}, Steps.{bucket_path, content_path}, Runs.{Moves, Runs, Gains, plain_reply, without_message}, State.{State, looking, over}, SingleSteps.{FailsAt}}
+use Rattle.cacache_calls.proofs.Going.{go_on_leads}
 use Rattle.cacache_calls.specs.declared.reply.Reply.TheVariants as replies
 use Rattle.cacache_calls.specs.declared.carried.Aim.TheVariants as aims
 use Rattle.cacache_calls.specs.Table as table
 use Rattle.cacache_value.{specs.{Shows.{blob_bytes, ShowsContent}, Value.{value_of_tree}}, proofs.Shows.{trees_show}}
 use Rattle.cacache_history.proofs.Histories.ShownTurns.{content_below}
 use Rattle.cacache_laws.specs.{Sequence.{tree_on, IsSound}, ReadAnswers.{entries_on, UnlessFailed}, CallErrors.{FailsOnly}, Caches.{IsCache, HasContent, HasKey, LacksKey, Grows, IsExcused, Called, setup_at}, OpenWriters.{LeavesKnownCache}, OpenReaders.{OpensContent, LookupRan, OpensWhatWasFound, OpensByKey, GivesFile, ReadersOpen, GivesNone, ReadersOpenKey}}
-use Rattle.cacache_laws.proofs.{Readings.{ReadAnswers.{reading_keeps, opening_keeps, opened_so}, Known.{Known, known, excuse, content_stays, answered}, GivenReads.{same_stays_known}}, Calls.{Logs.{some_same, growths_join, excuses_last}, InParts.{logs_lead}, CallErrors.{plain_error, excused_error}}, Putting.OpenWriters.{gains_grow, excused_step, gains_none}}
+use Rattle.cacache_laws.proofs.{Readings.{ReadAnswers.{reading_keeps, opening_keeps, opened_so}, Known.{Known, known, excuse, content_stays, answered}, GivenReads.{same_stays_known}}, Calls.{Replays.{some_same, growths_join, excuses_last}, InParts.{logs_lead}, CallErrors.{plain_error, excused_error}}, Putting.OpenWriters.{gains_grow, excused_step, gains_none}}
 
 -- ---- a tree that stays
 

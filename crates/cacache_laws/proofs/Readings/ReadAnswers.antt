@@ -5,10 +5,10 @@ use Rattle.cacache_core.specs.declared.{errors.{Fault.{Fault}, Error.TheVariants
 use Rattle.cacache_store.specs.{declared.store.plain.PlainFile.{PlainFile}, Plain.{PlainAnswer, PlainStep}}
 use Rattle.cacache_disk.specs.{declared.luck.Luck.TheVariants.{Plain}, Tree.{Tree, listing}, LedTo.{file_at, folder}, Apply.{apply, unless, opened}}
 use Rattle.sha1.specs.Sha1.{sha1}
-use Rattle.cacache_entry.specs.Latest.{Found, latest}
-use Rattle.cacache_calls.specs.{declared.{answers.Refusal.{Refusal}, command.Command.{Command}, reply.Reply.{Reply}}, StepPaths.{bucket_path, content_path}, Replies.{find_reply, content_reply, refusal_reply, lookup}, Runs.{Moves, plain_reply}}
+use Rattle.cacache_entry.specs.Bucket.{Found, latest}
+use Rattle.cacache_calls.specs.{declared.{answers.Refusal.{Refusal}, command.Command.{Command}, reply.Reply.{Reply}}, Steps.{bucket_path, content_path}, Replies.{find_reply, content_reply, refusal_reply, lookup}, Runs.{Moves, plain_reply}}
 use Rattle.cacache_value.specs.Shows.{blob_bytes}
-use Rattle.cacache_history.specs.{Setup.{Setup, home}, History.{Turn, turn_of}, ShownTurns.{shown_result, as_refusal, content_at, bucket_read, content_read}, TurnReplies.{FindsHeld, ReadsHeld, ReadsNext, GetsHeld, ReadsValue}}
+use Rattle.cacache_history.specs.{Setup.{Setup, home}, History.{Turn, turn_of}, Turns.{shown_result, as_refusal, content_at, bucket_read, content_read}, TurnReplies.{FindsHeld, ReadsHeld, ReadsNext, GetsHeld, ReadsValue}}
 use Rattle.cacache_laws.specs.{Sequence.{turns_on, tree_on}, ReadAnswers.{entries_on, read_on, get_on, reply_on, UnlessFailed, RepliesFollow, ReadsKeep}}
 use Rattle.cacache_core.specs.declared.errors.Fault.TheVariants as faults
 use Rattle.cacache_store.specs.declared.store.step.Step.TheVariants as steps

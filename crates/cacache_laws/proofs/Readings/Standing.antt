@@ -1,24 +1,24 @@
 -- Reads and lookups if each thing is where it may be, whatever the bytes of contents and buckets.
 use Rattle.std.proofs.{lemmas.{Grind.{common_steps}, List.Elements.{All-head}}, Common.{rules, ◌≡◌, ◌⊎◌, inl, inr, ℕ, Bool, true, false, cond, List, [], ◌∷◌, ◌++◌, Option, None, Some, Result, Ok, Err, map, option_map, refl, sym, ap, subst, ◌∙◌, arith}}
 use Rattle.sha1.specs.Sha1.{sha1}
-use Rattle.cacache_core.specs.{declared.{errors.{Error.TheVariants.{IntegrityError, IoError, OutOfMemory}, IntegrityFault.TheVariants.{Check}, Fault.{Fault}}, integrity.digest.Hash.{Hash}}, Integrity.{IsHash, IsIntegrity, Meets, actual, address}, Meeting.{meets}, PathNames.{home_of}}
+use Rattle.cacache_core.specs.{declared.{errors.{Error.TheVariants.{IntegrityError, IoError, OutOfMemory}, IntegrityFault.TheVariants.{Check}, Fault.{Fault}}, integrity.digest.Hash.{Hash}}, Integrity.{IsHash, IsIntegrity, Meets, actual, address}, Matching.{meets}, Paths.{home_of}}
 use Rattle.cacache_core.proofs.Meeting.{meets_finds}
 use Rattle.cacache_core.specs.declared.errors.Fault.TheVariants as faults
 use Rattle.cacache_store.specs.declared.store.answer.Answer.TheVariants as answers
 use Rattle.cacache_store.specs.{declared.store.log.LogItem.{LogItem, TheVariants.{Made}}, Plain.{PlainAnswer}}
 use Rattle.cacache_store.specs.declared.store.step.Step.TheVariants as steps
-use Rattle.cacache_disk.specs.{declared.luck.Luck.TheVariants.{Plain}, Apply.{apply}, Rooted.{Rooted}, Tree.{Tree}, memory.Replay.{tree_of}}
-use Rattle.cacache_entry.specs.{Entry.{Entry}, Latest.{Found, latest}}
-use Rattle.cacache_calls.specs.{declared.{answers.Refusal.{Refusal}, command.Command.{Command}, reply.Reply.{Reply}}, Answers.{bytes_in, refusal_in}, Causes.{HasCause, own_of}, Replies.{ReadsOn, bucket_shown, content_reply, find_reply, lookup, refusal_reply}, Runs.{Moves}, State.{Site}, StepPaths.{bucket_path, content_path}}
+use Rattle.cacache_disk.specs.{declared.luck.Luck.TheVariants.{Plain}, Apply.{apply}, Tree.{Rooted, Tree}, Replay.{tree_of}}
+use Rattle.cacache_entry.specs.{Entry.{Entry}, Bucket.{Found, latest}}
+use Rattle.cacache_calls.specs.{declared.{answers.Refusal.{Refusal}, command.Command.{Command}, reply.Reply.{Reply}}, Answers.{bytes_in, refusal_in}, Promises.{HasCause, own_of}, Replies.{ReadsOn, bucket_shown, content_reply, find_reply, lookup, refusal_reply}, Runs.{Moves}, State.{Site}, Steps.{bucket_path, content_path}}
 use Rattle.cacache_calls.proofs.{EarnedErrors.{io_errors_have_causes}, Replies.{finds_shown, gets_shown}}
 use Rattle.cacache_calls.specs.declared.answers.Refusal.TheVariants as refusals
 use Rattle.cacache_calls.specs.declared.command.Command.TheVariants as commands
 use Rattle.cacache_calls.specs.declared.reply.Reply.TheVariants as replies
 use Rattle.cacache_value.specs.{Acts.{list_of}, Placed.{Placed}, Shows.{ReadsShow, ShowsBucket, ShowsContent, blob_bytes}, Value.{Value, value_of_tree}}
 use Rattle.cacache_value.proofs.Shows.{trees_show}
-use Rattle.cacache_history.{specs.ShownTurns.{blob_at}, proofs.Histories.ShownTurns.{bucket_below, content_below}}
-use Rattle.cacache_laws.specs.{Caches.{HasKey, Called, GivesBytes, IsExcused, setup_at}, Inserts.{leads_to}, Keeping.{found_under}, Looks.{GivesFound, bytes_under}, Sequence.{AreAnswered}, Standing.{IsStanding, CachesStand, LooksLeaveStanding, StandingFinds, StandingReads}}
-use Rattle.cacache_laws.proofs.{Calls.{InParts.{logs_lead}, Logs.{some_same}}, Readings.{Known.{excused_by, key_stays}, Looks.{looks_keep, tree_stays}, ReadAnswers.{reading_keeps}}}
+use Rattle.cacache_history.{specs.Turns.{blob_at}, proofs.Histories.ShownTurns.{bucket_below, content_below}}
+use Rattle.cacache_laws.specs.{Caches.{HasKey, Called, GivesBytes, IsExcused, setup_at}, Inserts.{leads_to}, Beside.{found_under}, Looks.{GivesFound, bytes_under}, Sequence.{AreAnswered}, Standing.{IsStanding, CachesStand, LooksLeaveStanding, StandingFinds, StandingReads}}
+use Rattle.cacache_laws.proofs.{Calls.{InParts.{logs_lead}, Replays.{some_same}}, Readings.{Known.{excused_by, key_stays}, Looks.{looks_keep, tree_stays}, ReadAnswers.{reading_keeps}}}
 
 pub caches_stand : CachesStand
 caches_stand cache log sound = record { placed = sound.placed; rooted = sound.rooted }

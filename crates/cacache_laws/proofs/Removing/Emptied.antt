@@ -1,7 +1,7 @@
 -- A clearing that ends as done leaves an empty cache.
 use Rattle.std.proofs.{Common.{arith, ◌≡◌, inl, inr, ℕ, true, false, List, [], ◌∷◌, ◌++◌, None, Some, refl, sym, ap, subst, ◌∙◌, append_assoc}, lemmas.Grind.{common_steps}}
-use Rattle.cacache_core.specs.PathNames.{Names, home_of}
-use Rattle.cacache_disk.{specs.{Rooted.{is_folder, Rooted}, Tree.{Tree, look}}, proofs.Standing.{above_missing}}
+use Rattle.cacache_core.specs.Paths.{Names, home_of}
+use Rattle.cacache_disk.{specs.Tree.{is_folder, Rooted, Tree, look}, proofs.Standing.{above_missing}}
 use Rattle.cacache_calls.specs.declared.command.Command.TheVariants as commands
 use Rattle.cacache_calls.specs.{declared.reply.Reply.TheVariants.{Done}, Walking.{walk}, Runs.{Moves, Runs}}
 use Rattle.cacache_value.{specs.Value.{blob_in, bucket_in, folders_below, empty_value, value_of_tree}, proofs.PutValues.{same_value}}

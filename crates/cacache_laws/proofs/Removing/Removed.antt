@@ -1,22 +1,22 @@
 -- What the removal of a content, and of a key with its content, leaves in a cache.
 use Rattle.std.proofs.{lemmas.{Grind.{common_steps}, List.Elements.{All-head}}, Common.{rules, ◌≡◌, ◌⊎◌, inl, inr, ℕ, Bool, true, false, cond, List, [], ◌∷◌, ◌++◌, Option, None, Some, Result, Ok, Err, refl, sym, ap, subst, ◌∙◌, arith}}
+use Rattle.cacache_laws.specs.{Caches.{Called, IsCache, HasContent, IsExcused, lies_under, setup_at}, Beside.{ShareAddress, found_under}, CallErrors.{FailsOnly}, Removed.{KeepsApart}, Sequence.{after_deeds, turns_on}}
+use Rattle.cacache_laws.proofs.{Putting.{Puts.{follows_of}, Deeds.{alike_lookup}}, Readings.Known.{Known, known, excuse}}
 use Rattle.sha1.specs.Sha1.{sha1}
-use Rattle.cacache_core.specs.{declared.{errors.{Error.{Error, TheVariants.{IoError, OutOfMemory}}, Fault.{Fault}}, integrity.digest.Hash.{Hash}}, Integrity.{IsHash, IsIntegrity}, PathNames.{Names, names_of, names_below, home_of}, Paths.{joined, content_names, bucket_names_of}}
+use Rattle.cacache_core.specs.{declared.{errors.{Error.{Error, TheVariants.{IoError, OutOfMemory}}, Fault.{Fault}}, integrity.digest.Hash.{Hash}}, Integrity.{IsHash, IsIntegrity}, Paths.{Names, names_of, names_below, home_of, joined, content_names, bucket_names_of}}
 use Rattle.cacache_core.proofs.{PathLemmas.{keys_have_digests}, PathTexts.{paths_differ}}
 use Rattle.cacache_core.specs.declared.errors.Fault.TheVariants as faults
 use Rattle.cacache_store.specs.declared.store.answer.Answer.TheVariants as answers
 use Rattle.cacache_store.specs.{declared.store.log.LogItem.{LogItem}, Plain.{PlainStep, PlainAnswer}}
 use Rattle.cacache_store.specs.declared.store.step.Step.TheVariants as steps
-use Rattle.cacache_disk.{specs.{declared.luck.Luck.TheVariants.{Plain}, Apply.{apply}, Tree.{Tree}, memory.Replay.{tree_of}}, proofs.Roots.{same_self}}
-use Rattle.cacache_entry.specs.Latest.{latest}
-use Rattle.cacache_calls.specs.{declared.{command.Command.{Command}, reply.Reply.{Reply}}, Causes.{own_of}, Runs.{Moves, Runs}, State.{State, doing, over, remove}, StepPaths.{content_path}}
+use Rattle.cacache_disk.{specs.{declared.luck.Luck.TheVariants.{Plain}, Apply.{apply}, Tree.{Tree}, Replay.{tree_of}}, proofs.Roots.{same_self}}
+use Rattle.cacache_entry.specs.Bucket.{latest}
+use Rattle.cacache_calls.specs.{declared.{command.Command.{Command}, reply.Reply.{Reply}}, Promises.{own_of}, Runs.{Moves, Runs}, State.{State, doing, over, remove}, Steps.{content_path}}
 use Rattle.cacache_calls.specs.declared.command.Command.TheVariants as commands
 use Rattle.cacache_calls.specs.declared.reply.Reply.TheVariants as replies
 use Rattle.cacache_value.specs.{Acts.{Drop, act_at, act_if_done, act_of, list_of}, Kinds.{is_path_of}, Value.{Value, value_of_tree}}
 use Rattle.cacache_history.specs.Commits.{Deed, deeds, deeds_of_act, finds_in}
 use Rattle.cacache_history.proofs.{Contents.Righted.{one_address}, Histories.ShownTurns.{content_below}, Entries.Writes.{one_path}}
-use Rattle.cacache_laws.specs.{Beside.{ShareAddress}, CallErrors.{FailsOnly}, Caches.{HasContent, IsExcused, lies_under, setup_at}, Keeping.{found_under}, Removed.{KeepsApart, RemovesContent, ContentsGo}, Sequence.{after_deeds, turns_on}}
-use Rattle.cacache_laws.proofs.{Putting.{Puts.{follows_of}, Deeds.{alike_lookup}}, Readings.Known.{Known, known, excuse}}
 
 -- ---- runs of removals
 
@@ -218,11 +218,19 @@ Says X replies.Done old new = X
 Says X (replies.Refused e) old new = IsExcused e old new
 Says X r old new = ⊥
 
+-- after a removal that is done, nothing lies under the integrity
+abbrev pub RemovesContent : List ℕ → List Hash → Reply → List LogItem → List LogItem → Type 0
+RemovesContent cache i replies.Done old new = lies_under cache i new ≡ None
+RemovesContent cache i (replies.Refused e) old new = IsExcused e old new
+RemovesContent cache i r old new = ⊥
+
 pub says : (cache base : List ℕ) (command : Command) (old new : List LogItem) (X : Type 0) → ((fault : Fault) → own_of command fault → ⊥) → (r : Reply)
     → Known cache base command r old new → (r ≡ replies.Done → X) → Ends r → Says X r old new
 says cache base command old new X none r k h ends = grind (arith, excuse)
 
-pub contents_go : ContentsGo
+-- the removal of a content, and all else stays, whatever it answers
+pub contents_go : (cache : List ℕ) (i : List Hash) (r : Reply) (old new : List LogItem) → IsIntegrity i → IsCache cache old
+    → Called cache (commands.RemoveHash i) r old new → IsCache cache new × RemovesContent cache i r old new × KeepsApart cache i old new
 contents_go cache [] r old new formed sound c = absurd (omega (arith, formed.nonempty))
 contents_go cache (b ∷ bs) r old new formed sound c =
     let k = known cache (commands.RemoveHash (b ∷ bs)) r old new c tt formed sound in (

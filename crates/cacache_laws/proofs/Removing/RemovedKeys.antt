@@ -1,19 +1,19 @@
 -- What the removal of a key with its content leaves in a cache.
 -- What removals and clearings leave.
 use Rattle.std.proofs.{Common.{rules, ◌≡◌, ◌⊎◌, inl, inr, ℕ, List, [], ◌∷◌, ◌++◌, Option, None, Some, option_map, refl, sym, ap, subst, ◌∙◌, arith}, lemmas.List.Elements.{All-head}}
-use Rattle.std.specs.Prelude.{IfSome}
+use Rattle.std.specs.Prelude.{◌^◌, ◌<◌, IsUtf8, IfSome}
+use Rattle.cacache_laws.specs.{Caches.{IsExcused, Called, IsCache, LacksKey, lies_under, setup_at, Empties, ClearingsEmpty}, Beside.{found_under}, ReadAnswers.{entries_on}, Removed.{LeadsThere, KeepsApartFrom}, Sequence.{AreAnswered, after_deeds, turns_on}}
+use Rattle.cacache_laws.proofs.{Putting.{Puts.{follows_of}, Stored.{deletes_add, bare_written}}, Readings.{Known.{Known, known, excuse}, ReadAnswers.{reading_keeps}, Looks.{finds_last}}, Removing.{Removed.{IsRefused, LastRemoval, Ends, Says, removed_at, refused_run, removal, last_removal, then_deeds, cut_contents, uncut_buckets, cut_buckets, uncut_contents, bucket_gone, nowhere, says}, Emptied.{clears_all}}, Calls.CallErrors.{calls_fail_only}}
 use Rattle.sha1.specs.Sha1.{sha1}
-use Rattle.cacache_core.specs.{declared.{errors.Error.{TheVariants.{IoError, OutOfMemory, EntryNotFound, SizeMismatch, SerdeError, IntegrityError}, Error}, integrity.digest.Hash.{Hash}}, Integrity.{IsHash, IsIntegrity, address}, PathNames.{names_of, names_below, home_of}, Paths.{content_names, bucket_names_of}}
+use Rattle.cacache_core.specs.{declared.{errors.Error.{TheVariants.{IoError, OutOfMemory, EntryNotFound, SizeMismatch, SerdeError, IntegrityError}, Error}, integrity.digest.Hash.{Hash}}, Integrity.{IsHash, IsIntegrity, address}, Paths.{names_of, names_below, home_of, content_names, bucket_names_of}}
 use Rattle.cacache_store.specs.{declared.store.log.LogItem.{LogItem}, Plain.{PlainStep, PlainAnswer}}
-use Rattle.cacache_disk.specs.{declared.luck.Luck.TheVariants.{Plain}, Apply.{apply}, Tree.{Tree}, memory.Replay.{tree_of}, Rooted.{Rooted}}
-use Rattle.cacache_entry.specs.{Bucket.{entries_of}, Latest.{Found, latest}}
-use Rattle.cacache_calls.specs.{declared.{reply.Reply.{Reply}, command.Delete.{Delete}}, Looking.{found_in}, Removing.{remove_bucket, remove_found}, Replies.{bucket_shown}, Runs.{Moves, Runs, plain_reply}, State.{over}, StepPaths.{bucket_path, content_path}, Table.{opening}, Causes.{HasCause, own_of, OfWalk, Faulted}, Inserting.{deletion, refused_cause}, Promises.{Only}}
+use Rattle.cacache_disk.specs.{declared.luck.Luck.TheVariants.{Plain}, Apply.{apply}, Tree.{Tree, Rooted}, Replay.{tree_of}}
+use Rattle.cacache_entry.specs.Bucket.{entries_of, Found, latest}
+use Rattle.cacache_calls.specs.{declared.{reply.Reply.{Reply}, command.Delete.{Delete}}, Reading.{found_in}, Removing.{remove_bucket, remove_found}, Replies.{bucket_shown}, Runs.{Moves, Runs, plain_reply}, State.{over}, Steps.{bucket_path, content_path}, Table.{opening}, Promises.{HasCause, own_of, OfWalk, Faulted, Only}, Inserting.{deletion, refused_cause}}
 use Rattle.cacache_calls.proofs.Promises.{calls_answer}
 use Rattle.cacache_value.specs.{Acts.{act_of, list_of}, Value.{Value, value_of_tree}}
-use Rattle.cacache_history.specs.{Commits.{deeds, deeds_of_act, finds_in}, History.{turn_of}, Setup.{call_site}, ShownTurns.{bucket_read}}
+use Rattle.cacache_history.specs.{Commits.{deeds, deeds_of_act, finds_in}, History.{turn_of}, Setup.{call_site}, Turns.{bucket_read}}
 use Rattle.cacache_history.proofs.{Histories.{Holding.{TurnHolds}, ShownTurns.{bucket_at_turn, bucket_below, content_below}}, Entries.Spelled.{latest_has}}
-use Rattle.cacache_laws.specs.{Caches.{IsCache, LacksKey, RemovesKey, lies_under, setup_at, RemovalsLast, Empties, ClearingsEmpty}, Keeping.{found_under}, ReadAnswers.{entries_on}, Removed.{LeadsThere, KeepsApartFrom, KeysGo}, Sequence.{AreAnswered, after_deeds, turns_on}}
-use Rattle.cacache_laws.proofs.{Putting.{Puts.{follows_of}, Stored.{deletes_add}, Forms.{bare_written}}, Readings.{Known.{Known, known, excuse}, ReadAnswers.{reading_keeps}, Looking.{finds_last}}, Removing.{Removed.{IsRefused, LastRemoval, Ends, Says, removed_at, refused_run, removal, last_removal, then_deeds, cut_contents, uncut_buckets, cut_buckets, uncut_contents, bucket_gone, nowhere, says}, Emptied.{clears_all}}, Calls.CallErrors.{calls_fail_only}}
 use Rattle.cacache_core.specs.declared.errors.Fault.TheVariants as faults
 use Rattle.cacache_store.specs.declared.store.answer.Answer.TheVariants as answers
 use Rattle.cacache_store.specs.declared.store.step.Step.TheVariants as steps
@@ -188,6 +188,12 @@ module _ (cache base key : List ℕ) (number : ℕ) (old : List LogItem) (r : Re
 led_integrity : (cache key : List ℕ) (a : Hash) (hs : List Hash) (f : Found) (log : List LogItem) → found_under cache key log ≡ Some f → address f.integrity ≡ Some a → LeadsThere cache key (a ∷ hs) log
 led_integrity cache key a hs f log finds at = (f.integrity, ap (option_map (λ (found : Found). found.integrity)) finds, sym at)
 
+-- after a removal that is done, the key leads to nothing
+abbrev pub RemovesKey : List ℕ → List ℕ → Reply → List LogItem → List LogItem → Type 0
+RemovesKey cache key replies.Done old new = LacksKey cache key new
+RemovesKey cache key (replies.Refused e) old new = IsExcused e old new
+RemovesKey cache key r old new = ⊥
+
 module _ (cache base key : List ℕ) (r : Reply) (old new : List LogItem) (sound : IsCache cache old) (k : Known cache base (commands.RemoveFully key) r old new) where
   gone : Gone cache base key k.call.number old r sound k.call.moves
   gone = fully_gone cache base key k.call.number old r sound k.call.moves k.answers.disk k.run
@@ -217,7 +223,10 @@ module _ (cache base key : List ℕ) (r : Reply) (old new : List LogItem) (sound
       let follows = follows_of cache base (commands.RemoveFully key) r old new k in
       ap (latest key) (follows.lists (sha1 key)) ∙ ap (λ o. latest key (list_of o)) (gone.2.gone e)
 
-pub keys_go : KeysGo
+-- after a full removal that is done the key leads to nothing, and all else stays, whatever it answers
+pub keys_go : (cache key : List ℕ) (r : Reply) (old new : List LogItem) → IsCache cache old
+    → Called cache (commands.RemoveFully key) r old new → IsCache cache new × RemovesKey cache key r old new
+    × KeepsApartFrom cache key old new
 keys_go cache key r old new sound c =
     let k = known cache (commands.RemoveFully key) r old new c tt tt sound in (
       k.sound,
@@ -243,7 +252,10 @@ removes cache base key moment old new written (replies.Refused e) k h =
     (calls_fail_only.deletes (call_site (setup_at cache base) k.call.number) d k.call.moves (replies.Refused e) written k.run)
 removes cache base key moment old new written other k h = absurd cc
 
-pub removals_last : RemovalsLast
+-- the removal of a key by a tombstone
+pub removals_last : (cache key : List ℕ) (moment : ℕ) (r : Reply) (old new : List LogItem) → IsUtf8 key → moment < 2 ^ 64
+    → IsCache cache old → Called cache (commands.Delete (record { key = key; moment = moment })) r old new → IsCache cache new
+    × RemovesKey cache key r old new
 unfolding refused_cause
 removals_last cache key moment r old new utf8 early sound c =
     let d : Delete = record { key = key; moment = moment } in

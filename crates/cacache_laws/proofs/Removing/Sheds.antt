@@ -1,12 +1,12 @@
 -- Trees without what was at some paths and below them, and folders that are emptied.
 use Rattle.std.proofs.{lemmas.{Grind.{common_steps}, Slice.Eq.{bytes_eq-Decides}, Bool.{ne_eqb}}, Common.{◌≡◌, ◌⊎◌, inl, inr, ℕ, Bool, true, false, cond, List, [], ◌∷◌, ◌++◌, Option, None, refl, sym, ap, ap₂, ◌∙◌, append_assoc, append-nil, ◌==◌, Some, Ok, length, arith, length-append}}
 use Rattle.std.specs.Prelude.{bytes_eq}
-use Rattle.cacache_core.specs.PathNames.{Names, names_of}
+use Rattle.cacache_core.specs.Paths.{Names, names_of}
 use Rattle.cacache_store.specs.declared.store.answer.Name.{Name}
-use Rattle.cacache_disk.specs.{declared.{node.Node.{Node, TheVariants.{Folder}}, luck.Luck.TheVariants.{Plain}}, Tree.{Tree, look, cut, same_path, listing, kind_of}, Rooted.{Rooted}, LedTo.{emptied}, Apply.{apply}}
+use Rattle.cacache_disk.specs.{declared.{node.Node.{Node, TheVariants.{Folder}}, luck.Luck.TheVariants.{Plain}}, Tree.{Tree, look, cut, same_path, listing, kind_of, Rooted}, LedTo.{emptied}, Apply.{apply}}
 use Rattle.cacache_disk.proofs.{Maps.{same_path-true}, PutNodes.{look-cut}, Roots.{same_self}, Standing.{above_missing}}
 use Rattle.cacache_history.proofs.{Listings.ToldFolders.{IsAmong, Told, child_listed}, Each.{Each}}
-use Rattle.cacache_loss.proofs.UnchangedPaths.{bytes_same}
+use Rattle.cacache_loss.proofs.Reaching.{bytes_same}
 use Rattle.cacache_laws.proofs.trees.Children.{folder_there}
 use Rattle.cacache_store.specs.declared.store.step.Step.TheVariants as steps
 use Rattle.cacache_store.specs.declared.store.answer.Answer.TheVariants as answers

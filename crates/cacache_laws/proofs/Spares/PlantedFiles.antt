@@ -1,11 +1,11 @@
 -- A file that is planted apart from the cache makes no bucket, and leaves what the cache holds.
 use Rattle.std.{proofs.Common.{◌≡◌, ◌==◌, ℕ, Bool, true, false, cond, List, [], ◌∷◌, ◌++◌, Option, None, Some, Ok, length, sym, ap, subst, ◌∙◌, bytes_eq}, specs.Prelude.{All}}
-use Rattle.cacache_core.specs.PathNames.{Names, names_of, home_of}
-use Rattle.cacache_disk.specs.{declared.node.Node.TheVariants.{File}, Tree.{Tree, look, put, bare}, LedTo.{or_fault, dirs_fault, where_no_folder}, Apply.{planted, above_last, make_some}, memory.Replay.{changed, replay, IsReplayable, tree_of, IsLog}}
+use Rattle.cacache_core.specs.Paths.{Names, names_of, home_of}
+use Rattle.cacache_disk.specs.{declared.node.Node.TheVariants.{File}, Tree.{Tree, look, put, bare}, LedTo.{or_fault, dirs_fault, where_no_folder}, Apply.{planted, above_last, make_some}, Replay.{changed, replay, IsReplayable, tree_of, IsLog}}
 use Rattle.cacache_disk.proofs.{FoundNodes.{no_folder_at, and_then_ok, or_fault_none}, PlantedNodes.{Ends, empty, last, ends, above_last-snoc, planted_rooted}}
 use Rattle.cacache_value.specs.{Kinds.{PathKind, Bucket, Elsewhere, kind_beside, path_kind, IsFor}, Acts.{list_of}, Value.{Value, value_of_tree}}
-use Rattle.cacache_value.proofs.{KindsApart.{further, inner_used}, FoundPaths.{of_names}, OpeningTrees.{planted_apart}}
-use Rattle.cacache_history.{specs.{Buckets.{BucketsHaveKeys, HoldOwn}, Values.{AreRight}}, proofs.Entries.Keyed.{put_keyed, make_at}}
+use Rattle.cacache_value.proofs.{PathKinds.{further, inner_used}, Applying.{of_names}, OpeningTrees.{planted_apart}}
+use Rattle.cacache_history.{specs.{AddedEntries.{BucketsHaveKeys, HoldOwn}, Values.{AreRight}}, proofs.Entries.Bucketed.{put_keyed, make_at}}
 use Rattle.cacache_store.specs.declared.store.log.LogItem.TheVariants.{Foreign}
 use Rattle.cacache_entry.specs.FittingEntries.{IsEntry}
 use Rattle.cacache_laws.{proofs.Calls.Replays.{replay_more, replayable_rest, planted_so}, specs.{Sequence.{IsSound}, Caches.{PlantsLast}}}

@@ -2,18 +2,18 @@
 -- The removal of a temporary file leaves what the cache holds.
 use Rattle.std.proofs.{Common.{arith, rules, ◌≡◌, inl, inr, ℕ, Bool, true, false, List, [], ◌∷◌, ◌++◌, Option, None, Some, Result, Ok, refl, sym, ap, subst, ◌∙◌, Err, append-nil}, lemmas.{Grind.{common_steps}, List.{append_cancel_left}, Bool.{cond-false}}}
 use Rattle.std.specs.Prelude.{IfOk}
-use Rattle.cacache_core.specs.{declared.errors.Fault.{Fault}, PathNames.{Names, names_of, home_of, names_below}, Paths.{temp_names, content_names, bucket_names_of}}
-use Rattle.cacache_store.specs.{declared.store.log.LogItem.{LogItem}, Plain.{PlainStep, PlainAnswer}}
-use Rattle.cacache_disk.specs.{Tree.{Tree, bare, same_path}, memory.Replay.{tree_of}, declared.luck.Luck.TheVariants.{Plain}, Apply.{apply}}
+use Rattle.cacache_disk.specs.{Replay.{IsLog, tree_of}, Tree.{Tree, bare, same_path}, declared.luck.Luck.TheVariants.{Plain}, Apply.{apply}}
 use Rattle.cacache_disk.proofs.{Maps.{same_path-true}, Roots.{bare_below, same_self}, KeptFolders.{steps_keep_rooted}}
-use Rattle.cacache_calls.specs.{declared.{command.{Command.{Command}, Put.{Put}}, reply.Reply.{Reply}}, Licence.{May, allows, AllMay}, Runs.{Moves, Runs}, Sound.{MayBegin, Sound, Allowed}, State.{State, Site}, StepPaths.{temp_path}, Table.{opening, after}}
+use Rattle.cacache_laws.specs.{OpenWriters.{GivesUpTemp, drop_temp, LeavesKnownCache}, Beside.{FitsEntry}, Caches.{IsCache, Called, setup_at}, Sequence.{tree_on, plain_moves, Alike, IsSound, after_deeds, turns_on}, Succeeds.{IsUnused, IsTidy, StaysUnused, without_commits, OthersLeaveNone, PutsLeaveOwn, PutsLeaveTidy, IsReady, FreshIsReady, SameIsReady}}
+use Rattle.cacache_laws.proofs.{Calls.{InParts.{logs_lead}, Sequence.{run_holds, holds_alone, keeps_alone, moves_after, moves_follow}, Replays.{some_same}}, Readings.{Standing.{caches_stand}, GivenReads.{same_stays_known}}, Sure.{Succeeds.{puts_answer}, SureSpares.{Creates, NoneCreates, moves_spare}}, Putting.{Deeds.{stays_known}, OpenWriters.{gains_grow}}}
+use Rattle.cacache_core.specs.{declared.errors.Fault.{Fault}, Paths.{Names, names_of, home_of, names_below, temp_names, content_names, bucket_names_of}}
+use Rattle.cacache_store.specs.{declared.store.log.LogItem.{LogItem}, Plain.{PlainStep, PlainAnswer}}
+use Rattle.cacache_calls.specs.{declared.{command.{Command.{Command}, Put.{Put}}, reply.Reply.{Reply}}, Licence.{May, allows, AllMay}, Runs.{Moves, Runs}, Sound.{MayBegin, Sound, Allowed}, State.{State, Site}, Steps.{temp_path}, Table.{opening, after}}
 use Rattle.cacache_calls.proofs.{Sound.{begins_sound, steps_allowed, stays_sound}, Within.{calls_keep_to}}
-use Rattle.cacache_value.specs.{Kinds.{node_below, Content, Bucket, Temporary, IsFor, is_path_of, path_kind}, Placed.{Placed}, Traces.{IsTrace}, Acts.{Act, Drop, act_at, act_if_done, list_of}, Value.{Value, value_of_tree}}
-use Rattle.cacache_value.proofs.{KindsApart.{kind-below, unseen}, PathKinds.{paths_are_for}, Traces.{steps_keep_placed, traces_act}}
+use Rattle.cacache_value.specs.{Kinds.{node_below, Content, Bucket, Temporary, IsFor, is_path_of, path_kind}, Placed.{Placed}, Acts.{IsTrace, Act, Drop, act_at, act_if_done, list_of}, Value.{Value, value_of_tree}}
+use Rattle.cacache_value.proofs.{PathKinds.{kind-below, unseen, paths_are_for}, Traces.{steps_keep_placed, traces_act}}
 use Rattle.cacache_history.specs.{Setup.{call_site, may_export, is_outside}, History.{NamesIntegrity, new_call}, Commits.{deeds, deeds_of_act}}
-use Rattle.cacache_history.proofs.{Histories.Holding.{begins_hold}, durable.CallNumbers.{temps_named, same_number}, Entries.{Formed.{step_formed}, Keyed.{step_keyed}, Owned.{step_own}}, Contents.Righted.{stays_right}}
-use Rattle.cacache_laws.specs.{Beside.{FitsEntry}, Caches.{IsCache, Called, setup_at}, Sequence.{tree_on, plain_moves, Alike, IsSound, after_deeds, turns_on}, Succeeds.{IsUnused, IsTidy, StaysUnused, without_commits, OthersLeaveNone, PutsLeaveOwn, PutsLeaveTidy, IsReady, FreshIsReady, SameIsReady}, GivenUp.{GivingUpLasts, drop_temp}, OpenWriters.{LeavesKnownCache}}
-use Rattle.cacache_laws.proofs.{Calls.{InParts.{logs_lead}, Sequence.{run_holds, holds_alone, keeps_alone, moves_after, moves_follow}, Logs.{some_same}}, Readings.{Standing.{caches_stand}, GivenReads.{same_stays_known}}, Sure.{Succeeds.{puts_answer}, SureSpares.{Creates, NoneCreates, moves_spare}}, Putting.{Deeds.{stays_known}, OpenWriters.{gains_grow}}}
+use Rattle.cacache_history.proofs.{Histories.Holding.{begins_hold}, durable.CallNumbers.{temps_named, same_number}, Entries.{Spelled.{step_formed}, Bucketed.{step_keyed}, Owned.{step_own}}, Contents.Righted.{stays_right}}
 use Rattle.cacache_store.specs.declared.store.step.Step.TheVariants as steps
 use Rattle.cacache_calls.specs.declared.command.Command.TheVariants as commands
 use Rattle.cacache_store.specs.declared.store.answer.Answer.TheVariants as answers
@@ -145,7 +145,7 @@ module _ (home : Option Names) where
 
 module _ (cache path : List ℕ) (t : Tree) (sound : IsSound (home_of cache) t) where
   -- the tree after it is sound
-  still_sound : IsSound (home_of cache) (apply t (steps.RemoveFile path) Plain).1
+  pub still_sound : IsSound (home_of cache) (apply t (steps.RemoveFile path) Plain).1
   still_sound = record {
     placed = steps_keep_placed (home_of cache) t (steps.RemoveFile path) Plain sound.placed tt;
     rooted = steps_keep_rooted t (steps.RemoveFile path) Plain sound.rooted;
@@ -180,7 +180,9 @@ temp_for cache number = (paths_are_for cache).temporary number
 pub unchanged : (cache : List ℕ) (old new : List LogItem) → IsCache cache old → new ≡ old → LeavesKnownCache cache old new
 unchanged cache old new sound same = search (rules, same_stays_known)
 
-pub giving_up_lasts : GivingUpLasts
+-- giving up leaves a cache, and all that was known of it still holds
+pub giving_up_lasts : (cache : List ℕ) (number : ℕ) (old new : List LogItem) → IsCache cache old
+    → GivesUpTemp cache number (Some old) (Some new) → IsLog new → LeavesKnownCache cache old new
 giving_up_lasts cache number old new sound (inl same) logged = unchanged cache old new sound (some_same new old same)
 giving_up_lasts cache number old new sound (inr h) logged =
     let path = temp_path cache number in

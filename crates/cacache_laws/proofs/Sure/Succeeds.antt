@@ -2,15 +2,15 @@
 -- Open writers if all of their steps succeed.
 use Rattle.std.proofs.{lemmas.{Grind.{common_steps}, List.Elements.{All-head}}, Common.{rules, ◌≡◌, inl, inr, ℕ, List, [], ◌∷◌, ◌++◌, Option, None, Some, Ok, refl, sym, ap, subst, ◌∙◌, arith, Err}}
 use Rattle.sha1.specs.Sha1.{sha1}
-use Rattle.cacache_core.specs.{declared.{errors.{Error.TheVariants.{EntryNotFound, IoError, OutOfMemory}, Fault.{Fault}}, integrity.digest.Hash.{Hash}}, Integrity.{IsHash, IsIntegrity, address}, PathNames.{Names, names_of, home_of}, Paths.{temp_names, folder_names}}
+use Rattle.cacache_core.specs.{declared.{errors.{Error.TheVariants.{EntryNotFound, IoError, OutOfMemory}, Fault.{Fault}}, integrity.digest.Hash.{Hash}}, Integrity.{IsHash, IsIntegrity, address}, Paths.{Names, names_of, home_of, temp_names, folder_names}}
 use Rattle.cacache_store.specs.{declared.store.{log.LogItem.{LogItem}, plain.PlainTemp.{PlainTemp}}, Plain.{PlainAnswer}}
-use Rattle.cacache_disk.specs.{Tree.{Tree, look}, memory.Replay.{tree_of, IsLog}, declared.luck.Luck.TheVariants.{Plain}, Apply.{apply, made_temp}}
-use Rattle.cacache_entry.specs.Latest.{Found, latest}
-use Rattle.cacache_calls.specs.{declared.{carried.Lookup.{Lookup}, command.Command.{Command}, reply.Reply.{Reply, TheVariants.{LookedUp, Exists, Done, Refused}}}, Inserting.{insert, insertion, deletion}, Removing.{remove_content}, Looking.{found_for}, Replies.{OrMemory}, State.{Insertion, reading, asking, over}, Table.{opening}, Runs.{Gains, Moves}, StepPaths.{temp_folder, temp_path}, Storing.{persist, put_commit}}
+use Rattle.cacache_disk.specs.{Tree.{Tree, look}, Replay.{tree_of, IsLog}, declared.luck.Luck.TheVariants.{Plain}, Apply.{apply, made_temp}}
+use Rattle.cacache_entry.specs.Bucket.{Found, latest}
+use Rattle.cacache_calls.specs.{declared.{carried.Lookup.{Lookup}, command.Command.{Command}, reply.Reply.{Reply, TheVariants.{LookedUp, Exists, Done, Refused}}}, Inserting.{insert, insertion, deletion}, Removing.{remove_content}, Reading.{found_for}, Replies.{OrMemory}, State.{Insertion, reading, asking, over}, Table.{opening}, Runs.{Gains, Moves}, Steps.{temp_folder, temp_path}, Storing.{persist, put_commit}}
 use Rattle.cacache_value.specs.{Kinds.{node_below}, Placed.{Placed}, Shows.{blob_there}, Value.{Blob, value_of_tree}}
-use Rattle.cacache_history.{specs.ShownTurns.{blob_at}, proofs.Entries.Spelled.{HasIntegrity, latest_has}}
-use Rattle.cacache_laws.specs.{Caches.{Called, setup_at}, Keeping.{found_under}, ReadAnswers.{entries_on, get_on, read_on}, Standing.{IsStanding}, Succeeds.{NamesFolder, insertion_reply, put_reply, is_yes, removal_reply, PutsAnswer, InsertionsAnswer, DeletionsAnswer, LookupsAnswer, ContentReadsAnswer, KeyReadsAnswer, QuestionsAnswer, RemovalsAnswer, IsUnused}, OpenSucceeds.{FileAt, OpeningsSucceed, CommitsAnswer}, OpenWriters.{make_file, make_folder}}
-use Rattle.cacache_laws.proofs.{Readings.Standing.{caches_stand}, Sure.{SureInserts.{Inserted, inserts_so}, SurePuts.{PutSo, puts_so, persist_ends}, SureTemps.{own_temporary_at, made_file, temp_folder_lies, with_folder}, SureReads.{looks_so, reads_so, asks_so, removes_so}, SurePlays.{Plays, of_plays}, SureRuns.{EndsSo, ends, of_log}, SureSteps.{Ground, makes_dirs}}, trees.{Covering.{home_named}, Logged.{gains_join}}, Calls.InParts.{logs_lead}, Putting.WrittenFiles.{Stands, created_so}}
+use Rattle.cacache_history.{specs.Turns.{blob_at}, proofs.Entries.Spelled.{HasIntegrity, latest_has}}
+use Rattle.cacache_laws.specs.{Caches.{Called, setup_at}, Beside.{found_under}, ReadAnswers.{entries_on, get_on, read_on}, Standing.{IsStanding}, Succeeds.{NamesFolder, insertion_reply, put_reply, is_yes, removal_reply, PutsAnswer, InsertionsAnswer, DeletionsAnswer, LookupsAnswer, ContentReadsAnswer, KeyReadsAnswer, QuestionsAnswer, RemovalsAnswer, IsUnused}, OpenSucceeds.{FileAt, OpeningsSucceed, CommitsAnswer}, OpenWriters.{make_file, make_folder}}
+use Rattle.cacache_laws.proofs.{Readings.Standing.{caches_stand}, Sure.{SureInserts.{Inserted, inserts_so}, SurePuts.{PutSo, puts_so, persist_ends}, SureTemps.{own_temporary_at, made_file, temp_folder_lies, with_folder}, SureReads.{looks_so, reads_so, asks_so, removes_so}, SurePlays.{Plays, of_plays}, SureRuns.{EndsSo, ends, of_log, Ground, makes_dirs}}, trees.{Covering.{home_named}, Logged.{gains_join}}, Calls.InParts.{logs_lead}, Putting.WrittenFiles.{Stands, created_so}}
 use Rattle.cacache_calls.specs.declared.carried.Aim.TheVariants as aims
 use Rattle.cacache_calls.specs.declared.command.Command.TheVariants as commands
 use Rattle.cacache_store.specs.declared.store.answer.Answer.TheVariants as answers

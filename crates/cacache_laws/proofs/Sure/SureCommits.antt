@@ -1,12 +1,12 @@
 -- A commit in which all steps succeed, once its content is there.
 use Rattle.std.proofs.Common.{◌≡◌, ◌==◌, ℕ, List, [], ◌∷◌, ◌++◌, Option, None, Some, Ok, length, drop, refl, sym, ap, ◌∙◌}
 use Rattle.hex.specs.Hex.{encode_lower}
-use Rattle.cacache_core.specs.{declared.{errors.{Error.TheVariants.{SizeMismatch, IntegrityError}, IntegrityFault.TheVariants.{Check}}, integrity.digest.Hash.{Hash}}, Integrity.{IsHash}, PathNames.{Names, names_of}, Paths.{content_names, folder_names}}
+use Rattle.cacache_core.specs.{declared.{errors.{Error.TheVariants.{SizeMismatch, IntegrityError}, IntegrityFault.TheVariants.{Check}}, integrity.digest.Hash.{Hash}}, Integrity.{IsHash}, Paths.{Names, names_of, content_names, folder_names}}
 use Rattle.cacache_disk.specs.{Tree.{Tree}, LedTo.{place}, Apply.{make_some}}
-use Rattle.cacache_calls.specs.{declared.{carried.Commit.{Commit}, reply.Reply.{Reply, TheVariants.{Stored, Refused}}}, Common.{ends_with}, Inserting.{insert}, State.{State}, StepPaths.{content_path, content_folder}, Storing.{insertion_of, indexed, sized, compared, placed, matches}}
+use Rattle.cacache_calls.specs.{declared.{carried.Commit.{Commit}, reply.Reply.{Reply, TheVariants.{Stored, Refused}}}, Common.{ends_with}, Inserting.{insert}, State.{State}, Steps.{content_path, content_folder}, Storing.{insertion_of, indexed, sized, compared, placed, matches}}
 use Rattle.cacache_value.specs.Kinds.{Content, Way}
 use Rattle.cacache_laws.specs.Succeeds.{keyed_reply, sized_reply, compared_reply}
-use Rattle.cacache_laws.proofs.{Sure.{SureInserts.{Inserted, Spares, inserts_so, one_behind}, SurePlays.{Plays, ends, ends_too}, SureRuns.{both}, SureSteps.{Ground, Lies, dirs_ground, dirs_stand, place_in}, SureTemps.{content_folder_lies, content_lies}}, trees.Covering.{home_named}}
+use Rattle.cacache_laws.proofs.{Sure.{SureInserts.{Inserted, Spares, inserts_so, one_behind}, SurePlays.{Plays, ends, ends_too}, SureRuns.{both, Ground, Lies, dirs_ground, dirs_stand, place_in}, SureTemps.{content_folder_lies, content_lies}}, trees.Covering.{home_named}}
 
 -- ---- its reply, and something of the tree that an insertion keeps
 

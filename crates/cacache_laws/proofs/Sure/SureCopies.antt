@@ -1,17 +1,17 @@
 -- An export of bytes that are there, in which all steps succeed.
 use Rattle.std.proofs.Common.{◌≡◌, ℕ, Bool, true, false, cond, List, Some, length, refl, sym, ap, subst, ◌∙◌}
-use Rattle.cacache_core.specs.{declared.{errors.{Error.TheVariants.{IntegrityError}, IntegrityFault.TheVariants.{Check}}, integrity.digest.Hash.{Hash}}, Integrity.{Meets, actual, address}, PathNames.{Names, home_of}}
+use Rattle.cacache_core.specs.{declared.{errors.{Error.TheVariants.{IntegrityError}, IntegrityFault.TheVariants.{Check}}, integrity.digest.Hash.{Hash}}, Integrity.{Meets, actual, address}, Paths.{Names, home_of}}
 use Rattle.cacache_core.proofs.Meeting.{meets_finds}
 use Rattle.cacache_store.specs.declared.store.log.LogItem.{LogItem}
-use Rattle.cacache_disk.specs.{Tree.{Tree}, memory.Replay.{tree_of}}
-use Rattle.cacache_entry.specs.Latest.{latest}
+use Rattle.cacache_disk.specs.{Tree.{Tree}, Replay.{tree_of}}
+use Rattle.cacache_entry.specs.Bucket.{latest}
 use Rattle.cacache_calls.specs.declared.carried.Aim.TheVariants as aims
-use Rattle.cacache_calls.specs.{declared.{carried.Lookup.{Lookup}, command.{Export.{Export}, How.{How, TheVariants.{Copy}}}, reply.Reply.{Reply, TheVariants.{Copied, Done, Refused}}}, Exporting.{export}, Looking.{found_for}, Table.{opening}}
+use Rattle.cacache_calls.specs.{declared.{carried.Lookup.{Lookup}, command.{Export.{Export}, How.{How, TheVariants.{Copy}}}, reply.Reply.{Reply, TheVariants.{Copied, Done, Refused}}}, Reading.{export, found_for}, Table.{opening}}
 use Rattle.cacache_calls.specs.declared.command.Source.TheVariants as sources
 use Rattle.cacache_value.specs.Value.{InFile, value_of_tree}
-use Rattle.cacache_history.specs.ShownTurns.{blob_at}
-use Rattle.cacache_laws.specs.{Caches.{HasContent}, ExportAnswers.{exported_reply, made_reply, or_told}, Exported.{export_by}, OpenSucceeds.{ExportsSucceed, MayTake, exported}, ReadAnswers.{entries_on}}
-use Rattle.cacache_laws.proofs.{Sure.{SureExports.{Gives, content_ends, lies_at}, Succeeds.{either, ground}, SureReads.{looks_so}, SureRuns.{EndsSo, of_log}, SureSteps.{Ground}}, trees.Covering.{home_named}}
+use Rattle.cacache_history.specs.Turns.{blob_at}
+use Rattle.cacache_laws.specs.{Caches.{HasContent}, ExportAnswers.{exported_reply, made_reply, or_told}, ExportEffects.{export_by}, OpenSucceeds.{ExportsSucceed, MayTake, exported}, ReadAnswers.{entries_on}}
+use Rattle.cacache_laws.proofs.{Sure.{SureExports.{Gives, content_ends, lies_at}, Succeeds.{either, ground}, SureReads.{looks_so}, SureRuns.{EndsSo, of_log, Ground}}, trees.Covering.{home_named}}
 
 -- if the path may take it, an export of these bytes is done
 made_so : (how : How) (to bytes : List ℕ) (log : List LogItem) → MayTake how to log → made_reply how to (tree_of log) (Some (InFile bytes)) ≡ exported how bytes

@@ -1,21 +1,21 @@
 -- An export in which all steps succeed.
 use Rattle.std.proofs.{lemmas.{Grind.{common_steps}, List.{take_all, Elements.{All-head}}}, Common.{rules, ◌≡◌, option_map, ℕ, List, [], ◌∷◌, ◌++◌, Option, None, Some, Result, Ok, Err, length, take, refl, sym, ap, subst, ◌∙◌, arith}}
 use Rattle.sha1.specs.Sha1.{sha1}
-use Rattle.cacache_core.specs.{declared.{errors.{Error.TheVariants.{EntryNotFound, IoError, IntegrityError}, Fault.{Fault}, IntegrityFault.TheVariants.{Check}}, integrity.digest.Hash.{Hash}}, Integrity.{IsHash, IsIntegrity, actual, address}, Meeting.{meets}, PathNames.{Names, home_of}, Paths.{content_names}}
+use Rattle.cacache_core.specs.{declared.{errors.{Error.TheVariants.{EntryNotFound, IoError, IntegrityError}, Fault.{Fault}, IntegrityFault.TheVariants.{Check}}, integrity.digest.Hash.{Hash}}, Integrity.{IsHash, IsIntegrity, actual, address}, Matching.{meets}, Paths.{Names, home_of, content_names}}
 use Rattle.cacache_core.specs.declared.errors.Fault.TheVariants as faults
 use Rattle.cacache_store.specs.declared.store.answer.Answer.TheVariants as answers
 use Rattle.cacache_store.specs.declared.store.log.LogItem.{LogItem}
 use Rattle.cacache_store.specs.declared.store.step.Step.TheVariants as steps
-use Rattle.cacache_disk.specs.{declared.{luck.Luck.TheVariants.{Plain}, node.Node.{Node, TheVariants.{Folder, File, Link}}}, Tree.{Tree, look, put}, LedTo.{and_then, bytes_there, file_at, free, linked, writable}, Apply.{apply, opened, unless}, memory.Replay.{shown, tree_of}}
-use Rattle.cacache_entry.specs.Latest.{Found, latest}
+use Rattle.cacache_disk.specs.{declared.{luck.Luck.TheVariants.{Plain}, node.Node.{Node, TheVariants.{Folder, File, Link}}}, Tree.{Tree, look, put}, LedTo.{and_then, bytes_there, file_at, free, linked, writable}, Apply.{apply, opened, unless}, Replay.{shown, tree_of}}
+use Rattle.cacache_entry.specs.Bucket.{Found, latest}
 use Rattle.cacache_calls.specs.declared.carried.Aim.TheVariants as aims
-use Rattle.cacache_calls.specs.{declared.{carried.{Content.{Content}, Lookup.{Lookup}}, command.{Export.{Export}, How.{How, TheVariants.{Copy, HardLink, Reflink}}, Source.{Source}}, reply.Reply.{Reply, TheVariants.{Copied, Done, Refused}}}, Common.{ends_with}, Exporting.{copied_count, export, export_content, export_from, verified}, Looking.{found_for}, Replies.{OrMemory}, State.{State, copying, doing, hard_link, opening_file, over, reflink, to_verify}, StepPaths.{content_path}, Table.{opening}}
+use Rattle.cacache_calls.specs.{declared.{carried.{Content.{Content}, Lookup.{Lookup}}, command.{Export.{Export}, How.{How, TheVariants.{Copy, HardLink, Reflink}}, Source.{Source}}, reply.Reply.{Reply, TheVariants.{Copied, Done, Refused}}}, Common.{ends_with}, Reading.{copied_count, export, export_content, export_from, verified, found_for}, Replies.{OrMemory}, State.{State, copying, doing, hard_link, opening_file, over, reflink, to_verify}, Steps.{content_path}, Table.{opening}}
 use Rattle.cacache_calls.specs.declared.command.Command.TheVariants as commands
 use Rattle.cacache_calls.specs.declared.command.Source.TheVariants as sources
 use Rattle.cacache_value.specs.{Kinds.{Content as AtContent}, Placed.{MayStand}, Shows.{blob_bytes, link_end}, Value.{AtLink, Blob, InFile, blob_in, value_of_tree}}
-use Rattle.cacache_history.{specs.{ShownTurns.{blob_at}, History.{NamesSource}}, proofs.Entries.Spelled.{HasIntegrity, latest_has}}
-use Rattle.cacache_laws.specs.{Caches.{Called, IsCache, lies_under}, Keeping.{found_under}, results.Exports.{NamesHeld}, ExportAnswers.{export_reply, ExportsAnswer, StaysIfRefused, blob_named, blob_read, exported_reply, led_reply, made_reply, or_told, verified_reply}, ReadAnswers.{entries_on}}
-use Rattle.cacache_laws.proofs.{Putting.WrittenFiles.{written_shown}, Exports.Sharing.{put_shown}, Readings.Standing.{caches_stand}, Sure.{Succeeds.{either, home_ground}, SureReads.{opens_as, reads_whole, bytes_at, held, led_there, looks_so, read_at, suited}, SureRuns.{EndsSo, both, ends, goes, of_log}, SureSteps.{Ground, Reached, arrives, missing}}, trees.Covering.{home_named}}
+use Rattle.cacache_history.{specs.{Turns.{blob_at}, History.{NamesSource}}, proofs.Entries.Spelled.{HasIntegrity, latest_has}}
+use Rattle.cacache_laws.specs.{Caches.{Called, IsCache, lies_under}, Beside.{found_under}, results.Exports.{NamesHeld}, ExportAnswers.{export_reply, ExportsAnswer, StaysIfRefused, blob_named, blob_read, exported_reply, led_reply, made_reply, or_told, verified_reply}, ReadAnswers.{entries_on}}
+use Rattle.cacache_laws.proofs.{Putting.WrittenFiles.{written_shown, put_shown}, Readings.Standing.{caches_stand}, Sure.{Succeeds.{either, home_ground}, SureReads.{opens_as, reads_whole, bytes_at, held, led_there, looks_so, read_at, suited}, SureRuns.{EndsSo, both, ends, goes, of_log, Ground, Reached, arrives, missing}}, trees.Covering.{home_named}}
 
 -- ---- what lies there
 

@@ -3,19 +3,19 @@ use Rattle.std.proofs.{Common.{rules, ◌≡◌, ℕ, true, false, nat_le, List,
 use Rattle.std.specs.Prelude.{All}
 use Rattle.hex.specs.Hex.{encode_lower}
 use Rattle.sha1.specs.Sha1.{sha1}
-use Rattle.cacache_core.specs.{declared.errors.{Error.TheVariants.{SerdeError}, SerdeCause.{SerdeCause}}, PathNames.{Names, names_of, IsProperName, home_of}, Paths.{bucket_names, folder_names}}
+use Rattle.cacache_core.specs.{declared.errors.{Error.TheVariants.{SerdeError}, SerdeCause.{SerdeCause}}, Paths.{Names, names_of, IsProperName, home_of, bucket_names, folder_names}}
 use Rattle.cacache_core.proofs.{PathLemmas.{keys_have_digests}, ProperNames.{names_are_proper}}
 use Rattle.cacache_core.specs.declared.errors.Fault.TheVariants as faults
 use Rattle.cacache_store.specs.declared.store.step.Step.TheVariants as steps
 use Rattle.cacache_store.specs.declared.store.answer.Answer.TheVariants as answers
 use Rattle.cacache_store.specs.Plain.{PlainAnswer}
-use Rattle.cacache_disk.specs.{declared.{luck.Luck.TheVariants.{Plain}, node.Node.{Node, TheVariants.{File}}}, Tree.{Tree, look, put, bytes_of}, LedTo.{place}, Rooted.{Rooted}, Apply.{apply, make_some}}
+use Rattle.cacache_disk.specs.{declared.{luck.Luck.TheVariants.{Plain}, node.Node.{Node, TheVariants.{File}}}, Tree.{Tree, look, put, bytes_of, Rooted}, LedTo.{place}, Apply.{apply, make_some}}
 use Rattle.cacache_disk.proofs.KeptFolders.{outcome_rooted}
-use Rattle.cacache_calls.specs.{declared.reply.Reply.{Reply, TheVariants.{Refused}}, Common.{fails, sync_up}, Inserting.{bucket_line, insert, recorded, refused_cause, unless_refused}, State.{doing, appending, over, Insertion, make_folder, sync_file}, StepPaths.{bucket_path, bucket_folder, bucket_folders}}
-use Rattle.cacache_calls.proofs.Branches.{cond_leads}
-use Rattle.cacache_value.{specs.Kinds.{Bucket, Temporary, Way, path_kind}, proofs.{FoundPaths.{suits}, PathKinds.{proper_folder}}}
+use Rattle.cacache_calls.specs.{declared.reply.Reply.{Reply, TheVariants.{Refused}}, Common.{fails, sync_up}, Inserting.{bucket_line, insert, recorded, refused_cause, unless_refused}, State.{doing, appending, over, Insertion, make_folder, sync_file}, Steps.{bucket_path, bucket_folder, bucket_folders}}
+use Rattle.cacache_calls.proofs.Going.{cond_leads}
+use Rattle.cacache_value.{specs.Kinds.{Bucket, Temporary, Way, path_kind}, proofs.{Applying.{suits}, PathKinds.{proper_folder}}}
 use Rattle.cacache_laws.specs.Succeeds.{insertion_reply, unless_unwritable}
-use Rattle.cacache_laws.proofs.{Sure.{SurePlays.{Plays, ends, goes, syncs}, SureSpares.{dirs_spare, put_other}, SureSteps.{Ground, Lies, SyncsAll, joined_lies, is_for, place_at, place_in, makes_dirs, dirs_ground, dirs_stand, syncs_folders, look_own, appends, syncs_file}}, trees.Covering.{home_named}}
+use Rattle.cacache_laws.proofs.{Sure.{SurePlays.{Plays, ends, goes, syncs}, SureSpares.{dirs_spare, put_other}, SureRuns.{Ground, Lies, SyncsAll, joined_lies, is_for, place_at, place_in, makes_dirs, dirs_ground, dirs_stand, syncs_folders, look_own, appends, syncs_file}}, trees.Covering.{home_named}}
 
 -- no temporary file is at a place that had none
 abbrev pub Spares : Names → Tree → Tree → Type 0

@@ -1,18 +1,18 @@
 -- A link, and an open linker's commit, in which all steps succeed.
 use Rattle.std.proofs.{Common.{rules, ◌≡◌, ℕ, cond, List, [], ◌∷◌, ◌++◌, Option, None, Some, Result, Ok, Err, length, refl, sym, ap, subst, ◌∙◌, arith, append_assoc}, lemmas.List.{length-append}}
-use Rattle.cacache_core.specs.{declared.{errors.{Error.TheVariants.{IoError}, Fault.{Fault}}, integrity.digest.Hash.{Hash}}, Digests.{digest}, Integrity.{IsHash, hash_of}, PathNames.{Names, names_of}, Paths.{content_names}}
+use Rattle.cacache_core.specs.{declared.{errors.{Error.TheVariants.{IoError}, Fault.{Fault}}, integrity.digest.Hash.{Hash}}, Integrity.{digest, IsHash, hash_of}, Paths.{Names, names_of, content_names}}
 use Rattle.cacache_core.specs.declared.errors.Fault.TheVariants as faults
 use Rattle.cacache_store.specs.declared.store.answer.Answer.TheVariants as answers
 use Rattle.cacache_store.specs.{declared.store.log.LogItem.{LogItem}, Plain.{PlainAnswer}}
 use Rattle.cacache_store.specs.declared.store.step.Step.TheVariants as steps
-use Rattle.cacache_disk.specs.{declared.{luck.Luck.TheVariants.{Plain}, node.Node.{Node, TheVariants.{Folder, File, Link}}}, Tree.{Tree, look, put}, LedTo.{file_at, free, place}, Apply.{apply, make_some, opened}, Rooted.{Rooted}, memory.Replay.{tree_of}}
+use Rattle.cacache_disk.specs.{declared.{luck.Luck.TheVariants.{Plain}, node.Node.{Node, TheVariants.{Folder, File, Link}}}, Tree.{Tree, look, put, Rooted}, LedTo.{file_at, free, place}, Apply.{apply, make_some, opened}, Replay.{tree_of}}
 use Rattle.cacache_disk.proofs.{PlantedNodes.{deeper}, Standing.{upper_folder}}
-use Rattle.cacache_calls.specs.{declared.{carried.Commit.{Commit}, reply.Reply.{Reply, TheVariants.{Refused}}, target.Target.{Target}}, Common.{fails}, Linking.{commit_for, link_target, with_size}, State.{confirming, hashing, linking, opening_file, sizing, to_link}, StepPaths.{content_path, content_folder}, Storing.{link, placed, secured_found}, Table.{opening}}
+use Rattle.cacache_calls.specs.{declared.{carried.Commit.{Commit}, reply.Reply.{Reply, TheVariants.{Refused}}, target.Target.{Target}}, Common.{fails}, Linking.{commit_for, link_target, with_size}, State.{confirming, hashing, linking, opening_file, sizing, to_link}, Steps.{content_path, content_folder}, Storing.{link, placed, secured_found}, Table.{opening}}
 use Rattle.cacache_calls.specs.declared.command.Command.TheVariants as commands
 use Rattle.cacache_value.specs.{Kinds.{Content, Elsewhere, IsFor}, Placed.{MayStand, Proper}, Shows.{blob_there}, Value.{AtLink, Blob, InFile, blob_in, value_of_tree}}
-use Rattle.cacache_history.{specs.ShownTurns.{blob_at}, proofs.Contents.Digests.{digest_hash}}
+use Rattle.cacache_history.{specs.Turns.{blob_at}, proofs.Contents.Digests.{digest_hash}}
 use Rattle.cacache_laws.specs.{LinkAnswers.{LinkersAnswer, LinksAnswer, link_reply, linked_reply, unless_dangling}, Succeeds.{compared_reply, is_yes}}
-use Rattle.cacache_laws.proofs.{Sure.{Succeeds.{back, ground}, SureCommits.{CommitSo, placed_ends}, SureReads.{opens_as, reads_whole, sizes_as, IsAsked, asks, content_there, is_asked, suited}, SureInserts.{one_behind}, SurePlays.{ends_so, ends_too}, SureRuns.{EndsSo, both, ends, goes, of_log}, SureSteps.{Ground, arrives, goes_to, is_for, makes_dirs}}, trees.Covering.{home_named}}
+use Rattle.cacache_laws.proofs.{Sure.{Succeeds.{back, ground}, SureCommits.{CommitSo, placed_ends}, SureReads.{opens_as, reads_whole, sizes_as, IsAsked, asks, content_there, is_asked, suited}, SureInserts.{one_behind}, SurePlays.{ends_so, ends_too}, SureRuns.{EndsSo, both, ends, goes, of_log, Ground, arrives, goes_to, is_for, makes_dirs}}, trees.Covering.{home_named}}
 use Rattle.cacache_laws.proofs.Sure.SureCommits as commits
 
 -- ---- folders that are there

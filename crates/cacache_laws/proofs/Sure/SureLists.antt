@@ -1,23 +1,22 @@
 -- A listing in which all steps succeed.
-use Rattle.std.proofs.{Common.{arith, ◌≡◌, inl, inr, ◌+◌, ◌-◌, ℕ, Bool, true, false, cond, nat_le, nat_lt, List, [], ◌∷◌, ◌++◌, Option, None, Some, Ok, option_map, length, take, refl, sym, ap, subst, ◌∙◌, append_assoc}, lemmas.{Grind.{common_steps}, List.Elements.{All-head}}}
+use Rattle.std.proofs.{Common.{arith, ◌≡◌, inl, inr, ◌+◌, ◌-◌, ℕ, Bool, true, false, cond, nat_le, List, [], ◌∷◌, ◌++◌, Option, None, Some, Ok, option_map, length, take, refl, sym, ap, subst, ◌∙◌, append_assoc}, lemmas.{Grind.{common_steps}, List.Elements.{All-head}}}
 use Rattle.std.specs.{Prelude.{filter_map, suc, map as each}, List.{AllByRecursion, cons_option}}
 use Rattle.hex.specs.Hex.{encode_lower}
 use Rattle.sha1.specs.Sha1.{sha1}
-use Rattle.cacache_core.specs.{declared.errors.Error.TheVariants.{IoError}, PathNames.{Names, names_of, IsProperName}, Paths.{cut_digits, index_area, join}}
+use Rattle.cacache_core.specs.{declared.errors.Error.TheVariants.{IoError}, Paths.{Names, names_of, IsProperName, cut_digits, index_area, join}}
 use Rattle.cacache_core.proofs.{PathLemmas.{keys_have_digests}, ProperNames.{names_are_proper}}
 use Rattle.cacache_core.specs.declared.errors.Fault.TheVariants as faults
 use Rattle.cacache_store.specs.declared.store.answer.Answer.TheVariants as answers
 use Rattle.cacache_store.specs.{declared.store.answer.{Kind.{Kind}, Name.{Name}}, Plain.{PlainStep, PlainAnswer}}
-use Rattle.cacache_store.specs.declared.store.answer.Kind.TheVariants as kinds
 use Rattle.cacache_store.specs.declared.store.step.Step.TheVariants as steps
-use Rattle.cacache_disk.specs.{declared.{luck.Luck.TheVariants.{Plain}, node.Node.{Node, TheVariants.{Folder, File, Link}}}, Tree.{Tree, look, listing, kind_of}, LedTo.{folder}, Rooted.{Rooted}, Apply.{apply}, memory.Replay.{tree_of}}
-use Rattle.cacache_entry.specs.{Bucket.{entries_of}, Entry.{Entry}, Latest.{Found, latest}}
+use Rattle.cacache_disk.specs.{declared.{luck.Luck.TheVariants.{Plain}, node.Node.{Node, TheVariants.{Folder, File, Link}}}, Tree.{Tree, look, listing, kind_of, Rooted}, LedTo.{folder}, Apply.{apply}, Replay.{tree_of}}
+use Rattle.cacache_entry.specs.{Bucket.{entries_of, Found, latest}, Entry.{Entry}}
 use Rattle.cacache_calls.specs.declared.command.Command.TheVariants as commands
 use Rattle.cacache_calls.specs.{declared.{reply.Reply.{Reply, TheVariants.{Listed}}, visit.{Task.{Task, TheVariants.{Make, Stumble}}, Visit.{Visit, TheVariants.{Enter, ReadBucket}}}}, Replies.{OrMemory}, Runs.{Moves, Runs}, State.{State, walking, over, Item, Walk}, Table.{opening}, Walking.{after_visit, failed, items_in, listed, most, once, task_for_name, tasks_of, too_many, walk, walk_on}}
-use Rattle.cacache_value.{specs.{Kinds.{Bucket, Way, kind_in_area, node_below, path_kind, is_used}, Placed.{MayStand}}, proofs.{FoundPaths.{suits}, KindsApart.{kind-below}}}
+use Rattle.cacache_value.{specs.{Kinds.{Bucket, Way, kind_in_area, node_below, path_kind, is_used}, Placed.{MayStand}}, proofs.{Applying.{suits}, PathKinds.{kind-below}}}
 use Rattle.cacache_history.proofs.{Listings.ToldFolders.{Told, listing_told}, Each.{Each}}
 use Rattle.cacache_laws.specs.{Sequence.{AreAnswered}, Succeeds.{IsItemOrTooDeep, ListsAll, ListingsAnswer}}
-use Rattle.cacache_laws.proofs.{trees.{Children.{proper_child}, Listing.{lists}, Covering.{named_on}}, Sure.{Succeeds.{back, ground}, SureRuns.{EndsSo, ends, goes, of_log}, SureSteps.{Ground, Reached, arrives, missing, file_so, place_at, reached}}, Removing.Sheds.{lists_folder}}
+use Rattle.cacache_laws.proofs.{trees.{Children.{proper_child}, Covering.{named_on}, Listing.{lists}}, Sure.{Succeeds.{back, ground}, SureRuns.{EndsSo, ends, goes, of_log, Ground, Reached, arrives, missing, file_so, place_at, reached}}, Removing.Sheds.{lists_folder}}
 
 -- ---- items
 
@@ -73,10 +72,6 @@ unfolding apply
 gives_all t p names bytes rooted is there = rw (file_so t p names bytes (place_at t p names (File bytes) rooted is there) there) refl
 
 module _ (home : Names) (t : Tree) (g : Ground home t) where
-  -- names in the index
-  abbrev inside : Names → Names
-  inside rest = home ++ index_area ∷ rest
-
   -- a visit that a listing makes: of a folder or a file in the index
   abbrev Good : Visit → Type 0
   Good (Enter p level) = (rest : Names) × (names_of p ≡ Ok (home ++ index_area ∷ rest)) × (look t (home ++ index_area ∷ rest) ≡ Some Folder)

@@ -1,11 +1,11 @@
 -- The run of a call whose steps all succeed, step by step.
 use Rattle.std.proofs.Common.{◌≡◌, ℕ, List, [], ◌∷◌, Some, refl, sym, ap, subst}
-use Rattle.cacache_store.specs.{declared.store.log.LogItem.{LogItem}, Plain.{PlainStep, PlainAnswer}, Fits.{Fits}}
+use Rattle.cacache_store.specs.{declared.store.log.LogItem.{LogItem}, Plain.{PlainStep, PlainAnswer, Fits}}
 use Rattle.cacache_store.specs.declared.store.step.Step.TheVariants as steps
 use Rattle.cacache_store.specs.declared.store.answer.Answer.TheVariants as answers
-use Rattle.cacache_disk.specs.{declared.luck.Luck.TheVariants.{Plain}, Tree.{Tree}, Apply.{apply}, memory.Replay.{tree_of, IsLog}}
+use Rattle.cacache_disk.specs.{declared.luck.Luck.TheVariants.{Plain}, Tree.{Tree}, Apply.{apply}, Replay.{tree_of, IsLog}}
 use Rattle.cacache_calls.specs.{declared.reply.Reply.{Reply}, Common.{sync_up}, Replies.{OrMemory}, Runs.{Moves, Goes, Ran}, State.{State, doing, over, sync_dir}, Table.{wants, after}}
-use Rattle.cacache_laws.{specs.Sequence.{tree_on, AreAnswered}, proofs.Sure.{SureRuns.{EndsSo}, SureSteps.{SyncsAll}}}
+use Rattle.cacache_laws.{specs.Sequence.{tree_on, AreAnswered}, proofs.Sure.SureRuns.{EndsSo, SyncsAll}}
 use Rattle.cacache_laws.proofs.Sure.SureRuns as runs
 
 -- there are moves that take the call from this state to its reply, each answered as this tree answers in its turn

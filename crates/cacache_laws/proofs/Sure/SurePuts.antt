@@ -1,6 +1,6 @@
 -- A put in which all steps succeed.
 use Rattle.std.proofs.{Common.{rules, ◌≡◌, ◌==◌, ℕ, true, false, cond, List, [], ◌∷◌, ◌++◌, None, Some, Result, Ok, length, take, drop, refl, sym, ap, subst, ◌∙◌, arith}, lemmas.{Bool.{ne_eqb}, List.{drop_all}}}
-use Rattle.cacache_core.specs.{declared.{errors.Fault.{Fault}, integrity.digest.Hash.{Hash}}, Digests.{digest}, Integrity.{IsHash, hash_of}, PathNames.{Names, names_of}, Paths.{content_names, folder_names, temp_names}}
+use Rattle.cacache_core.specs.{declared.{errors.Fault.{Fault}, integrity.digest.Hash.{Hash}}, Integrity.{digest, IsHash, hash_of}, Paths.{Names, names_of, content_names, folder_names, temp_names}}
 use Rattle.cacache_core.specs.declared.errors.Fault.TheVariants as faults
 use Rattle.cacache_store.specs.declared.store.plain.PlainTemp.{PlainTemp}
 use Rattle.cacache_store.specs.declared.store.step.Step.TheVariants as steps
@@ -8,12 +8,12 @@ use Rattle.cacache_store.specs.declared.store.answer.Answer.TheVariants as answe
 use Rattle.cacache_disk.specs.{declared.{luck.Luck.TheVariants.{Plain}, node.Node.TheVariants.{File}}, Tree.{Tree, look, put, cut}, LedTo.{place}, Apply.{apply}}
 use Rattle.cacache_disk.proofs.{PutNodes.{look-cut}, Roots.{same_self}}
 use Rattle.cacache_calls.specs.declared.command.Command.TheVariants as commands
-use Rattle.cacache_calls.specs.{declared.{command.Put.{Put}, reply.Reply.{Reply}}, Common.{fails}, State.{doing, creating, writing, syncing, persisting, make_folder}, StepPaths.{temp_path, temp_folder, content_path, content_folder, content_folders}, Table.{opening}, Storing.{placed, secured, move_in, persist, write_rest, put_commit}}
-use Rattle.cacache_calls.proofs.Branches.{cond_leads}
-use Rattle.cacache_value.{specs.{Kinds.{Content, Temporary, Way, path_kind, IsFor}, Placed.{Proper}}, proofs.FoundPaths.{suits}}
+use Rattle.cacache_calls.specs.{declared.{command.Put.{Put}, reply.Reply.{Reply}}, Common.{fails}, State.{doing, creating, writing, syncing, persisting, make_folder}, Steps.{temp_path, temp_folder, content_path, content_folder, content_folders}, Table.{opening}, Storing.{placed, secured, move_in, persist, write_rest, put_commit}}
+use Rattle.cacache_calls.proofs.Going.{cond_leads}
+use Rattle.cacache_value.{specs.{Kinds.{Content, Temporary, Way, path_kind, IsFor}, Placed.{Proper}}, proofs.Applying.{suits}}
 use Rattle.cacache_history.proofs.Contents.Digests.{digest_hash}
 use Rattle.cacache_laws.specs.Succeeds.{put_reply}
-use Rattle.cacache_laws.proofs.{Putting.WrittenFiles.{Stands}, Sure.{SureCommits.{placed_ends as commit_ends}, SurePlays.{Plays, goes, syncs}, SureSpares.{put_other}, SureTemps.{temp_lies, temp_folder_lies, content_synced, own_temporary_at, with_folder, with_file, made_file, file_ground, stands}, SureSteps.{Ground, Lies, goes_to, is_for, makes_dirs, dirs_keep, persists, look_own}}}
+use Rattle.cacache_laws.proofs.{Putting.WrittenFiles.{Stands}, Sure.{SureCommits.{placed_ends as commit_ends}, SurePlays.{Plays, goes, syncs}, SureSpares.{put_other}, SureTemps.{temp_lies, temp_folder_lies, content_synced, own_temporary_at, with_folder, with_file, made_file, file_ground, stands}, SureRuns.{Ground, Lies, goes_to, is_for, makes_dirs, dirs_keep, persists, look_own}}}
 use Rattle.cacache_laws.proofs.Sure.SureCommits as commits
 
 -- ---- once the content is there

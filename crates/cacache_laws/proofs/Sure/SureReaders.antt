@@ -1,19 +1,19 @@
 -- Openings of readers and linkers in which all steps succeed.
 use Rattle.std.proofs.{lemmas.{Grind.{common_steps}, List.Elements.{All-head}}, Common.{◌≡◌, inl, inr, ℕ, List, [], ◌∷◌, ◌++◌, Option, None, Some, Result, Ok, Err, length, map, refl, sym, ap, subst, ◌∙◌, arith}}
 use Rattle.sha1.specs.Sha1.{sha1}
-use Rattle.cacache_core.specs.{declared.{errors.{Error.{Error, TheVariants.{EntryNotFound, IoError, OutOfMemory}}, Fault.{Fault}}, integrity.digest.Hash.{Hash}}, Integrity.{IsHash, IsIntegrity, address}, PathNames.{home_of}}
+use Rattle.cacache_core.specs.{declared.{errors.{Error.{Error, TheVariants.{EntryNotFound, IoError, OutOfMemory}}, Fault.{Fault}}, integrity.digest.Hash.{Hash}}, Integrity.{IsHash, IsIntegrity, address}, Paths.{home_of}}
 use Rattle.cacache_core.specs.declared.errors.Fault.TheVariants as faults
 use Rattle.cacache_store.specs.declared.store.answer.Answer.TheVariants as answers
 use Rattle.cacache_store.specs.{declared.store.{log.LogItem.{LogItem, TheVariants.{Made}}, plain.PlainFile.{PlainFile}}, Plain.{PlainAnswer}}
 use Rattle.cacache_store.specs.declared.store.step.Step.TheVariants as steps
-use Rattle.cacache_disk.specs.{Tree.{Tree}, LedTo.{file_at}, Apply.{opened, unless}, memory.Replay.{tree_of, IsLog}}
-use Rattle.cacache_entry.specs.Latest.{Found}
+use Rattle.cacache_disk.specs.{Tree.{Tree}, LedTo.{file_at}, Apply.{opened, unless}, Replay.{tree_of, IsLog}}
+use Rattle.cacache_entry.specs.Bucket.{Found}
 use Rattle.cacache_calls.specs.declared.command.Command.TheVariants as commands
-use Rattle.cacache_calls.specs.{declared.reply.Reply.{Reply, TheVariants.{LookedUp, Refused}}, Replies.{OrMemory}, Runs.{Moves, plain_reply, without_message}, SingleSteps.{Does, FailsAt}, StepPaths.{content_path}}
+use Rattle.cacache_calls.specs.{declared.reply.Reply.{Reply, TheVariants.{LookedUp, Refused}}, Replies.{OrMemory}, Runs.{Moves, plain_reply, without_message}, SingleSteps.{Does, FailsAt}, Steps.{content_path}}
 use Rattle.cacache_value.specs.{Shows.{blob_bytes}, Value.{value_of_tree}}
-use Rattle.cacache_history.{specs.ShownTurns.{blob_at}, proofs.Entries.Spelled.{HasIntegrity, latest_has}}
-use Rattle.cacache_laws.specs.{Caches.{Called, IsCache}, Keeping.{found_under}, LinkAnswers.{KeyReadersAnswer, LinkerOpeningsAnswer, OpensAs, OpensLed, ReadersAnswer, SizedOpeningsAnswer, target_bytes}, Looks.{bytes_under}, OpenLinkers.{OpensTarget, TellsSize}, OpenReaders.{LookupRan, OpensContent, OpensWhatWasFound}, ReadAnswers.{entries_on}, Sequence.{IsSound}, Succeeds.{NamesFolder}}
-use Rattle.cacache_laws.proofs.{Calls.{InParts.{logs_lead}, Logs.{some_same}, CallErrors.{plain_error, memory_error}}, Readings.{Looks.{tree_stays}, OpenReaders.{log_front, opened_by, by_key}, ReadAnswers.{sizing_keeps}, Standing.{caches_stand}}, Sure.{Succeeds.{back, ground, lookups_answer}, SureReads.{opens_as, sizes_as, bytes_at}}, Links.TargetBytes.{target_opened}, trees.Covering.{home_named}}
+use Rattle.cacache_history.{specs.Turns.{blob_at}, proofs.Entries.Spelled.{HasIntegrity, latest_has}}
+use Rattle.cacache_laws.specs.{Caches.{Called, IsCache}, Beside.{found_under}, LinkAnswers.{KeyReadersAnswer, LinkerOpeningsAnswer, OpensAs, OpensLed, ReadersAnswer, SizedOpeningsAnswer, target_bytes}, Looks.{bytes_under}, OpenLinkers.{OpensTarget, TellsSize}, OpenReaders.{LookupRan, OpensContent, OpensWhatWasFound}, ReadAnswers.{entries_on}, Sequence.{IsSound}, Succeeds.{NamesFolder}}
+use Rattle.cacache_laws.proofs.{Calls.{InParts.{logs_lead}, Replays.{some_same}, CallErrors.{plain_error, memory_error}}, Readings.{Looks.{tree_stays}, OpenReaders.{log_front, opened_by, by_key}, ReadAnswers.{sizing_keeps}, Standing.{caches_stand}}, Sure.{Succeeds.{back, ground, lookups_answer}, SureReads.{opens_as, sizes_as, bytes_at}}, Links.TargetBytes.{target_opened}, trees.Covering.{home_named}}
 
 -- ---- the opening of a file
 

@@ -1,16 +1,16 @@
 -- Lookups, reads, questions and removals in which all steps succeed.
 -- A file is opened and read to its end, if no step fails without cause.
 use Rattle.std.proofs.{lemmas.{Grind.{common_steps}, Bool.{eq-eqb, cond-true}, List.{length-take, nil_from_length}}, Common.{rules, ◌≡◌, ◌⊎◌, inl, inr, ℕ, Bool, true, false, cond, List, [], ◌∷◌, ◌++◌, Option, None, Some, Result, Ok, Err, refl, sym, ap, subst, ◌∙◌, ◌==◌, ◌<◌, zero, suc, length, take, drop, arith, append_assoc, append-nil, take-append-drop, length-drop}}
-use Rattle.cacache_core.specs.{declared.{errors.{Error.TheVariants.{IoError, IntegrityError}, Fault.{Fault}, IntegrityFault.TheVariants.{Check}}, integrity.digest.Hash.{Hash}}, Integrity.{IsHash, actual}, Meeting.{meets}, PathNames.{Names, home_of}, Paths.{bucket_names, content_names}}
+use Rattle.cacache_core.specs.{declared.{errors.{Error.TheVariants.{IoError, IntegrityError}, Fault.{Fault}, IntegrityFault.TheVariants.{Check}}, integrity.digest.Hash.{Hash}}, Integrity.{IsHash, actual}, Matching.{meets}, Paths.{Names, home_of, bucket_names, content_names}}
 use Rattle.cacache_store.specs.Plain.{PlainAnswer}
 use Rattle.cacache_disk.specs.{declared.{luck.Luck.TheVariants.{Plain}, node.Node.{Node, TheVariants.{Folder, File, Link}}}, Tree.{Tree, look, cut}, LedTo.{leads, followed, file_at, found, removable}, Apply.{apply, is_there, opened, rest_of, unless}}
-use Rattle.cacache_entry.specs.Latest.{Found, latest}
-use Rattle.cacache_calls.specs.{declared.{carried.Lookup.{Lookup}, reply.Reply.{Reply, TheVariants.{Read, Exists, Refused}}}, Common.{ends_with}, Looking.{found_for, found_in}, State.{State, doing, looking, reading, asking, over, remove, Hashing, hashing}, StepPaths.{bucket_path, content_path}, Replies.{content_reply}, Linking.{after_read, hashed}, Table.{piece}}
+use Rattle.cacache_entry.specs.Bucket.{latest}
+use Rattle.cacache_calls.specs.{declared.{carried.Lookup.{Lookup}, reply.Reply.{Reply, TheVariants.{Read, Exists, Refused}}}, Common.{ends_with}, Reading.{found_for, found_in}, State.{State, doing, looking, reading, asking, over, remove, Hashing, hashing}, Steps.{bucket_path, content_path}, Replies.{content_reply}, Linking.{after_read, hashed}, Table.{piece}}
 use Rattle.cacache_value.specs.{Kinds.{Content, Bucket, is_used}, Placed.{MayStand}, Shows.{link_end, blob_bytes, blob_there}, Acts.{list_of}, Value.{Blob, InFile, AtLink, blob_in, bucket_in, value_of_tree}}
-use Rattle.cacache_value.proofs.FoundPaths.{suits}
-use Rattle.cacache_history.specs.ShownTurns.{as_refusal}
+use Rattle.cacache_value.proofs.Applying.{suits}
+use Rattle.cacache_history.specs.Turns.{as_refusal}
 use Rattle.cacache_laws.specs.{ExportAnswers.{blob_read}, ReadAnswers.{entries_on, read_on}, Succeeds.{is_yes}}
-use Rattle.cacache_laws.proofs.{Sure.{SureInserts.{bucket_lies}, SureTemps.{content_lies}, SureRuns.{EndsSo, ends, goes}, SureSteps.{Ground, Lies, Reached, arrives, missing, goes_to, reached}}, trees.Twins.Agreeing.{said}, Calls.InParts.{file_of}}
+use Rattle.cacache_laws.proofs.{Sure.{SureInserts.{bucket_lies}, SureTemps.{content_lies}, SureRuns.{EndsSo, ends, goes, Ground, Lies, Reached, arrives, missing, goes_to, reached}}, trees.Twins.Agreeing.{said}, Calls.InParts.{file_of}}
 use Rattle.cacache_core.specs.declared.errors.Fault.TheVariants as faults
 use Rattle.cacache_store.specs.declared.store.step.Step.TheVariants as steps
 use Rattle.cacache_store.specs.declared.store.answer.Answer.TheVariants as answers
@@ -77,10 +77,6 @@ is_blob home (Some (Link target)) s node e = (AtLink target, refl)
 -- ---- lookups
 
 module _ (Q : Tree → Reply → Type 0) (home : Names) (t : Tree) (g : Ground home t) (l : Lookup) (is : home_of l.cache ≡ Some home) where
-  -- what the key leads to
-  abbrev led : Option Found
-  led = latest l.key (entries_on (Some home) t l.key)
-
   by_bucket : (here : Option Node) → look t (home ++ bucket_names l.key) ≡ here → EndsSo Q t (found_for l l.aim (latest l.key (entries_on (Some home) t l.key))) → MayStand (Some home) here Bucket
       → apply t (steps.ReadAll (bucket_path l.cache l.key)) Plain ≡ (file_told here, t) → EndsSo Q t (looking l)
   unfolding found_in

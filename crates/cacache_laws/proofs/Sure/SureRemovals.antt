@@ -1,18 +1,18 @@
 -- A full removal of a key in which all steps succeed.
 -- A clearing in which all steps succeed.
 use Rattle.std.proofs.{lemmas.{Grind.{common_steps}, List.Elements.{All-head}}, Common.{◌≡◌, ℕ, false, cond, List, [], ◌∷◌, ◌++◌, Option, None, Some, Ok, refl, sym, ap, subst, ◌∙◌, arith, ◌⊎◌, inl, inr, Bool, true, append-nil}}
-use Rattle.std.specs.Prelude.{bytes_eq}
 use Rattle.sha1.specs.Sha1.{sha1}
-use Rattle.cacache_core.specs.{declared.{errors.Error.TheVariants.{IoError, OutOfMemory}, integrity.digest.Hash.{Hash}}, Integrity.{IsHash, IsIntegrity, address}, PathNames.{Names, names_of, home_of}, Paths.{bucket_names, content_names, content_area, index_area, temp_area}}
-use Rattle.cacache_disk.specs.{declared.{luck.Luck.TheVariants.{Plain}, node.Node.{Node, TheVariants.{Folder, File, Link}}}, Tree.{Tree, look, cut, same_path, listing, kind_of}, LedTo.{removable, folder}, Rooted.{Rooted}, Apply.{apply}, memory.Replay.{tree_of}}
-use Rattle.cacache_disk.proofs.{Maps.{same_path-true}, PutNodes.{look-cut}, Roots.{not_true}}
-use Rattle.cacache_entry.specs.Latest.{Found, latest}
-use Rattle.cacache_calls.specs.{declared.{carried.Lookup.{Lookup}, reply.Reply.{Reply, TheVariants.{Done, Refused}}}, Looking.{found_for}, Removing.{remove_bucket, remove_content}, Replies.{OrMemory}, State.{doing, over, remove}, StepPaths.{bucket_path}, Table.{opening}, Walking.{walk}}
-use Rattle.cacache_value.specs.{Acts.{list_of}, Kinds.{Bucket, Content, path_kind, is_used, Way, Stray, kind_below, node_below}, Placed.{MayStand}, Value.{bucket_in, value_of_tree}}
-use Rattle.cacache_value.proofs.{FoundPaths.{suits}, KindsApart.{kind-below}}
-use Rattle.cacache_history.{specs.ShownTurns.{blob_at}, proofs.{Entries.Spelled.{HasIntegrity, latest_has}, Listings.ToldFolders.{Told, listing_told}, Each.{Each}}}
+use Rattle.cacache_core.specs.{declared.{errors.Error.TheVariants.{IoError, OutOfMemory}, integrity.digest.Hash.{Hash}}, Integrity.{IsHash, IsIntegrity, address}, Paths.{Names, names_of, home_of, bucket_names, content_names}}
+use Rattle.cacache_core.proofs.ProperNames.{not_true}
+use Rattle.cacache_disk.specs.{declared.{luck.Luck.TheVariants.{Plain}, node.Node.{Node, TheVariants.{Folder, File, Link}}}, Tree.{Tree, look, cut, same_path, listing, kind_of, Rooted}, LedTo.{removable, folder}, Apply.{apply}, Replay.{tree_of}}
+use Rattle.cacache_disk.proofs.{Maps.{same_path-true}, PutNodes.{look-cut}}
+use Rattle.cacache_entry.specs.Bucket.{Found, latest}
+use Rattle.cacache_calls.specs.{declared.{carried.Lookup.{Lookup}, reply.Reply.{Reply, TheVariants.{Done, Refused}}}, Reading.{found_for}, Removing.{remove_bucket, remove_content}, Replies.{OrMemory}, State.{doing, over, remove}, Steps.{bucket_path}, Table.{opening}, Walking.{walk}}
+use Rattle.cacache_value.specs.{Acts.{list_of}, Kinds.{Bucket, Content, path_kind, is_used, Way, Stray, node_below}, Placed.{MayStand}, Value.{bucket_in, value_of_tree}}
+use Rattle.cacache_value.proofs.{Applying.{suits}, PathKinds.{kind-below}}
+use Rattle.cacache_history.{specs.Turns.{blob_at}, proofs.{Entries.Spelled.{HasIntegrity, latest_has}, Listings.ToldFolders.{Told, listing_told}, Each.{Each}}}
 use Rattle.cacache_laws.specs.{ReadAnswers.{entries_on}, Succeeds.{removal_reply, fully_reply, FullRemovalsAnswer, Clears, ClearingsAnswer}, Sequence.{tree_on}, trees.Idle.{BreaksOff}}
-use Rattle.cacache_laws.proofs.{Readings.Standing.{caches_stand}, Sure.{Succeeds.{back, ground}, SureInserts.{bucket_lies}, SureTemps.{content_lies}, SureReads.{looks_so, removes_so}, SureRuns.{EndsSo, ends, goes, of_log}, SureSteps.{Ground, Lies, Reached, arrives, missing, place_at, reached}, SureLists.{no_folder}}, trees.{Covering.{home_named}, Twins.Cleared.{Cleared, IsFolderName, cleared, kept, swept}}}
+use Rattle.cacache_laws.proofs.{Readings.Standing.{caches_stand}, Sure.{Succeeds.{back, ground}, SureInserts.{bucket_lies}, SureTemps.{content_lies}, SureReads.{looks_so, removes_so}, SureRuns.{EndsSo, ends, goes, of_log, Ground, Lies, Reached, arrives, missing, place_at, reached}, SureLists.{no_folder}}, trees.{Covering.{home_named}, Twins.Cleared.{Cleared, IsFolderName, cleared, kept, swept}}}
 use Rattle.cacache_store.specs.declared.store.answer.Name.{Name}
 use Rattle.cacache_core.specs.declared.errors.Fault.TheVariants as faults
 use Rattle.cacache_store.specs.declared.store.step.Step.TheVariants as steps

@@ -1,11 +1,11 @@
 -- If no temporary file is there, no other step of a call makes one.
-use Rattle.std.{proofs.Common.{rules, ◌≡◌, ℕ, cond, List, [], ◌∷◌, Option, None, Some, sym, ap, ◌∙◌}, specs.List.{AllByRecursion}}
-use Rattle.cacache_core.specs.PathNames.{Names}
+use Rattle.std.{proofs.Common.{rules, ◌≡◌, ℕ, List, [], ◌∷◌, Option, None, sym, ap, ◌∙◌}, specs.List.{AllByRecursion}}
+use Rattle.cacache_core.{specs.Paths.{Names}, proofs.ProperNames.{not_true}}
 use Rattle.cacache_store.specs.declared.store.step.Step.TheVariants as steps
 use Rattle.cacache_store.specs.Plain.{PlainStep, PlainAnswer}
-use Rattle.cacache_disk.specs.{declared.{luck.Luck.TheVariants.{Plain}, node.Node.{Node}}, Tree.{Tree, look, put, same_path}, Apply.{apply}}
-use Rattle.cacache_disk.proofs.{Maps.{same_path-true}, PutNodes.{look-put}, Roots.{not_true}}
-use Rattle.cacache_value.specs.{Kinds.{PathKind, Temporary, Way, path_kind, IsFor}, Placed.{Placed, Proper}, Traces.{IsTrace}}
+use Rattle.cacache_disk.specs.{declared.{luck.Luck.TheVariants.{Plain}, node.Node.{Node}}, Tree.{Tree, look, put}, Apply.{apply}}
+use Rattle.cacache_disk.proofs.{Maps.{same_path-true}, PutNodes.{look-put}}
+use Rattle.cacache_value.specs.{Kinds.{PathKind, Temporary, Way, path_kind, IsFor}, Placed.{Placed, Proper}, Acts.{IsTrace}}
 use Rattle.cacache_value.proofs.{Temps.{as_was, came, temp_at, went}, Traces.{steps_keep_placed}}
 pub use Rattle.cacache_value.proofs.Temps.{Creates}
 use Rattle.cacache_calls.specs.Runs.{Moves}

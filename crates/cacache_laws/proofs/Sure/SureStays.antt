@@ -1,16 +1,16 @@
 -- A temporary file stays as long as calls don't move it and remove nothing.
 use Rattle.std.proofs.{Common.{arith, rules, ◌≡◌, ℕ, Bool, true, false, List, [], ◌∷◌, ◌++◌, Option, None, Some, Result, Ok, Err, refl, sym, ap, subst, ◌∙◌}, lemmas.Grind.{common_steps}}
 use Rattle.std.specs.List.{AllByRecursion}
-use Rattle.cacache_core.specs.{declared.errors.Fault.{Fault}, PathNames.{Names, names_of, home_of, names_below}, Paths.{temp_names}}
+use Rattle.cacache_core.specs.{declared.errors.Fault.{Fault}, Paths.{Names, names_of, home_of, names_below, temp_names}}
 use Rattle.cacache_core.specs.declared.errors.Fault.TheVariants as faults
 use Rattle.cacache_store.specs.{declared.store.log.LogItem.{LogItem}, Plain.{PlainStep, PlainAnswer}}
 use Rattle.cacache_store.specs.declared.store.step.Step.TheVariants as steps
-use Rattle.cacache_disk.specs.{declared.{luck.Luck.TheVariants.{Plain}, node.Node.{Node, TheVariants.{File}}}, Tree.{Tree, look}, Apply.{apply}, memory.Replay.{tree_of}}
-use Rattle.cacache_calls.specs.{declared.{command.Command.{Command}, reply.Reply.{Reply}}, Licence.{AllMay, Licence, May, allows}, Runs.{Moves, Runs}, Sound.{Allowed, MayBegin, Sound}, State.{Site, State}, StepPaths.{temp_path}, Table.{after, opening}}
+use Rattle.cacache_disk.specs.{declared.{luck.Luck.TheVariants.{Plain}, node.Node.{Node, TheVariants.{File}}}, Tree.{Tree, look}, Apply.{apply}, Replay.{tree_of}}
+use Rattle.cacache_calls.specs.{declared.{command.Command.{Command}, reply.Reply.{Reply}}, Licence.{AllMay, Licence, May, allows}, Runs.{Moves, Runs}, Sound.{Allowed, MayBegin, Sound}, State.{Site, State}, Steps.{temp_path}, Table.{after, opening}}
 use Rattle.cacache_calls.proofs.{Sound.{begins_sound, stays_sound, steps_allowed}, Within.{calls_keep_to}}
 use Rattle.cacache_calls.specs.declared.command.Command.TheVariants as commands
-use Rattle.cacache_value.specs.{Kinds.{Temporary, path_kind}, Placed.{Placed, Proper}, Traces.{IsTrace}}
-use Rattle.cacache_value.proofs.{KindsApart.{kind-below}, Temps.{Takes, as_was, came, temp_at, went}, Traces.{steps_keep_placed}}
+use Rattle.cacache_value.specs.{Kinds.{Temporary, path_kind}, Placed.{Placed, Proper}, Acts.{IsTrace}}
+use Rattle.cacache_value.proofs.{PathKinds.{kind-below}, Temps.{Takes, as_was, came, temp_at, went}, Traces.{steps_keep_placed}}
 use Rattle.cacache_history.{specs.{History.{NamesIntegrity}, Setup.{call_site, is_outside, may_export}}, proofs.durable.CallNumbers.{temps_named, same_number}}
 use Rattle.cacache_laws.specs.{Caches.{Called, IsCache, setup_at}, OpenSucceeds.{FileAt, OthersKeepFiles, PutsKeepFiles, without_takings}, Sequence.{plain_moves, tree_on}}
 use Rattle.cacache_laws.proofs.{Calls.InParts.{logs_lead}, Spares.Unused.{calls_trace, own_file}}

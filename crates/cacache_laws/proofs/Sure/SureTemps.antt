@@ -1,15 +1,15 @@
 -- The paths of contents and temporary files, and how a temporary file is made.
 use Rattle.std.{proofs.Common.{◌≡◌, ℕ, List, [], ◌∷◌, ◌++◌, None, Some, Ok, length, refl, sym, ap, ◌∙◌, arith}, specs.{Prelude.{All, codes}, Int.{to_be_bytes, w64}}}
 use Rattle.hex.specs.Hex.{encode_lower}
-use Rattle.cacache_core.specs.{declared.integrity.digest.Hash.{Hash}, Integrity.{IsHash}, PathNames.{Names, names_of, IsProperName, home_of}, Paths.{content_names, folder_names, temp_names}}
+use Rattle.cacache_core.specs.{declared.integrity.digest.Hash.{Hash}, Integrity.{IsHash}, Paths.{Names, names_of, IsProperName, home_of, content_names, folder_names, temp_names}}
 use Rattle.cacache_core.proofs.ProperNames.{names_are_proper}
 use Rattle.cacache_store.specs.{declared.store.plain.PlainTemp.{PlainTemp}, Plain.{PlainAnswer}}
 use Rattle.cacache_store.specs.declared.store.step.Step.TheVariants as steps
 use Rattle.cacache_store.specs.declared.store.answer.Answer.TheVariants as answers
-use Rattle.cacache_disk.specs.{declared.{luck.Luck.TheVariants.{Plain}, node.Node.{Node, TheVariants.{File}}}, Tree.{Tree, look, put}, Rooted.{Rooted}, Apply.{apply, make_some, made_temp}}
-use Rattle.cacache_calls.specs.StepPaths.{temp_path, temp_folder, content_path, content_folder, content_folders}
+use Rattle.cacache_disk.specs.{declared.{luck.Luck.TheVariants.{Plain}, node.Node.{Node, TheVariants.{File}}}, Tree.{Tree, look, put, Rooted}, Apply.{apply, make_some, made_temp}}
+use Rattle.cacache_calls.specs.Steps.{temp_path, temp_folder, content_path, content_folder, content_folders}
 use Rattle.cacache_value.{specs.Kinds.{Content, Temporary, Way, path_kind}, proofs.PathKinds.{proper_folder}}
-use Rattle.cacache_laws.proofs.{Putting.WrittenFiles.{Stands}, Sure.{SureInserts.{one_behind}, SureSpares.{dirs_spare}, SureSteps.{Ground, Lies, SyncsAll, goes_to, joined_lies, is_for, makes_dirs, dirs_ground, dirs_stand, creates, look_own, syncs_folders}}, trees.Covering.{home_named}}
+use Rattle.cacache_laws.proofs.{Putting.WrittenFiles.{Stands}, Sure.{SureInserts.{one_behind}, SureSpares.{dirs_spare}, SureRuns.{Ground, Lies, SyncsAll, goes_to, joined_lies, is_for, makes_dirs, dirs_ground, dirs_stand, creates, look_own, syncs_folders}}, trees.Covering.{home_named}}
 
 -- ---- paths
 

@@ -1,16 +1,16 @@
 -- A put alone, and what followed it elsewhere: nothing is appended to its bucket after its entry.
 -- Histories of one durable commit, on a disk that holds nothing.
 use Rattle.std.proofs.{lemmas.Grind.{common_steps}, Common.{rules, ◌≡◌, inl, inr, ℕ, Bool, true, false, List, [], ◌∷◌, ◌++◌, Option, None, Some, Result, Ok, Err, refl, sym, subst, append-nil, codes, ap, ◌∙◌, arith}}
-use Rattle.cacache_core.specs.{PathNames.{Names, names_of}, Paths.{bucket_names, content_names, temp_names}, declared.integrity.digest.Hash.{Hash}}
+use Rattle.cacache_core.specs.{Paths.{Names, names_of, bucket_names, content_names, temp_names}, declared.integrity.digest.Hash.{Hash}}
 use Rattle.cacache_store.specs.Plain.{PlainStep, PlainAnswer}
 use Rattle.cacache_disk.{specs.{declared.luck.Luck.TheVariants.{Plain}, Tree.{Tree, bare}}, proofs.Roots.{bare_below}}
 use Rattle.cacache_entry.{specs.Entry.{Entry}, proofs.EntryCauses.{no_cause_is_fit}}
-use Rattle.cacache_calls.specs.{Answers.{done_in, there_in}, Effects.{Commits, Effect, Indexes, effect, effects_of, if_done, if_there, sent, stored}, Runs.{Moves, Goes}, declared.{answers.Refusal.{Refusal}, carried.Commit.{Commit}, reply.Reply.{Reply, TheVariants.{Stored}}, command.{Command.{Command}, Put.{Put}}}, Inserting.{insert, insertion, refused_cause, unless_refused}, State.{State, over, Insertion}, StepPaths.{bucket_folder, temp_folder}, Storing.{insertion_of, put_commit}, Sound.{MayBegin}, Table.{opening, wants}}
+use Rattle.cacache_calls.specs.{Answers.{done_in, there_in}, Effects.{Commits, Effect, Indexes, effect, effects_of, if_done, if_there, sent, stored}, Runs.{Moves, Goes}, declared.{answers.Refusal.{Refusal}, carried.Commit.{Commit}, reply.Reply.{Reply, TheVariants.{Stored}}, command.{Command.{Command}, Put.{Put}}}, Inserting.{insert, insertion, refused_cause, unless_refused}, State.{State, over, Insertion}, Steps.{bucket_folder, temp_folder}, Storing.{insertion_of, put_commit}, Sound.{MayBegin}, Table.{opening, wants}}
 use Rattle.cacache_calls.proofs.{Effects.{puts_commit}, Going.{goes_over}}
-use Rattle.cacache_history.specs.{History.{Made, Call, History, IsLegal, NamesIntegrity, Now, initial, new_call, replayed}, Values.{steps_of, value_at}, declared.record.Record.{Record, TheVariants.{Began, Moved, Stopped}}, durable.{Behind.{NoneAppends, appends_at}, Outlasting.{IsAppendOf, DurablePut, IsNoLink}, Ending.{CallEndsWith, EndsFrom}, QuietMoves.{AreQuiet, IsQuietMove, PutsDurably}}, AddedEntries.{address_of_put}, Setup.{Setup, call_site, home, is_outside, may_export}}
-use Rattle.cacache_laws.proofs.{results.SureResults.{records_of, quiet_more, records_end, records_legal, records_quiet}, Sure.{SureInserts.{Inserted, inserts_so}, SurePlays.{Plays}, SurePuts.{PutSo, puts_so}, SureSteps.{Ground}, SureTemps.{own_temporary_at}}, trees.Covering.{home_named}}
+use Rattle.cacache_history.specs.{History.{Made, Call, History, IsLegal, NamesIntegrity, Now, initial, new_call, replayed}, Values.{steps_of, value_at}, declared.record.Record.{Record, TheVariants.{Began, Moved, Stopped}}, durable.{Behind.{NoneAppends, appends_at}, Outlasting.{IsAppendOf, DurablePut, IsNoLink}, QuietMoves.{CallEndsWith, EndsFrom, AreQuiet, IsQuietMove, PutsDurably}}, AddedEntries.{address_of_put}, Setup.{Setup, call_site, home, is_outside, may_export}}
+use Rattle.cacache_laws.proofs.{results.SureResults.{records_of, quiet_more, records_end, records_legal, records_quiet}, Sure.{SureInserts.{Inserted, inserts_so}, SurePlays.{Plays}, SurePuts.{PutSo, puts_so}, SureRuns.{Ground}, SureTemps.{own_temporary_at}}, trees.Covering.{home_named}}
 use Rattle.cacache_laws.specs.{Sequence.{AreAnswered}, Succeeds.{compared_reply, insertion_reply, keyed_reply, put_reply, sized_reply, unless_unwritable}, results.{DurableCases.{CanBeWritten, GoElsewhere, InsertsStandInOne, IsLastPut, PutsStandInOne, PutsStandLast, StandsIn, StoresDurably}, Losses.{entry_written}}}
-use Rattle.cacache_value.{specs.{OpeningTrees.{IsOpening}, Placed.{Placed}, Value.{AtLink, Value}}, proofs.OpeningTrees.{files_open}}
+use Rattle.cacache_value.{specs.{Placed.{IsOpening, Placed}, Value.{AtLink, Value}}, proofs.OpeningTrees.{files_open}}
 use Rattle.cacache_store.specs.declared.store.step.Step.TheVariants as steps
 use Rattle.cacache_calls.specs.declared.command.Command.TheVariants as commands
 

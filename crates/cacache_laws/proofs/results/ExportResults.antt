@@ -1,15 +1,15 @@
 -- Why an export fails, and what exports gave and left.
 use Rattle.std.proofs.{Common.{arith, rules, ◌≡◌, ◌⊎◌, inl, inr, ℕ, Bool, true, false, cond, List, [], Option, None, Some, option_map, Result, Ok, Err, length, refl, sym, ap, subst, ◌∙◌}, lemmas.Grind.{common_steps}}
 use Rattle.std.specs.Prelude.{IfErr, IfOk, MatchResult}
-use Rattle.cacache_core.specs.{declared.{errors.{Error.{Error, TheVariants.{EntryNotFound, IoError, IntegrityError}}, Fault.{Fault}, IntegrityFault.{IntegrityFault, TheVariants.{Check}}}, integrity.digest.Hash.{Hash}}, Integrity.{Meets, actual}, Meeting.{meets}, PathNames.{Names}}
+use Rattle.cacache_core.specs.{declared.{errors.{Error.{Error, TheVariants.{EntryNotFound, IoError, IntegrityError}}, Fault.{Fault}, IntegrityFault.{IntegrityFault, TheVariants.{Check}}}, integrity.digest.Hash.{Hash}}, Integrity.{Meets, actual}, Matching.{meets}, Paths.{Names}}
 use Rattle.cacache_core.proofs.Meeting.{meets_finds}
 use Rattle.cacache_store.specs.declared.{store.log.LogItem.{LogItem}, env.Env.{Env}}
-use Rattle.cacache_disk.specs.{declared.node.Node.{Node, TheVariants.{Folder, File}}, LedTo.{and_then, bytes_there, free, writable}, Tree.{Tree, look}, memory.Replay.{tree_of, IsLog, shown}}
-use Rattle.cacache_entry.specs.Latest.{Found}
+use Rattle.cacache_disk.specs.{declared.node.Node.{Node, TheVariants.{Folder, File}}, LedTo.{and_then, bytes_there, free, writable}, Tree.{Tree, look}, Replay.{tree_of, IsLog, shown}}
+use Rattle.cacache_entry.specs.Bucket.{Found}
 use Rattle.cacache_calls.specs.{declared.{command.{Export.{Export}, How.{How, TheVariants.{Copy, HardLink, Reflink}}, Source.{Source}}, reply.Reply.{Reply, TheVariants.{Copied, Done, Refused}}}, Replies.{OrMemory, done}, Runs.{reply_of, without_message}}
 use Rattle.cacache_value.specs.{Shows.{blob_bytes, link_end}, Value.{AtLink, Blob, InFile}}
-use Rattle.cacache_laws.specs.{Caches.{LacksKey, lies_under, Called, IsCache, IsExcused}, ExportAnswers.{StaysIfRefused, blob_named, blob_read, export_reply, exported_reply, led_reply, made_reply, or_told, verified_reply}, Keeping.{found_under}, Looks.{IsDamaged, bytes_under}, results.{Exports.{FailsExport, NamesHeld, RefusesSource, TellsPath, TellsSource, made_at, CopyMeans, HasArrived, SharingMeans}, Success.{FailsAs, FailsFor}, Reads.{LinksToFile}}, Exported.{Arrives, export_by}, ExportEffects.{IsApart}, OpenWriters.{LeavesKnownCache}, OpenSucceeds.{MayTake, exported}, Succeeds.{NamesFolder}}
-use Rattle.cacache_laws.proofs.{Sure.{SureExports.{by_held, exports_answer}, SureCopies.{exports_succeed}}, results.{SureResults.{IsGiven, fails_for, fails_too, of_refused, for_memory}, Told.{called}}, Links.TargetBytes.{links_show}, Readings.Standing.{caches_stand}, Exports.{Arriving.{has_arrived}, Exported.{exports_arrive}, ExportEffects.{exports_keep}, Sharing.{free_writable}}, Calls.{Logs.{calls_grow}, CallErrors.{excused_error}}}
+use Rattle.cacache_laws.specs.{Caches.{LacksKey, lies_under, Called, IsCache, IsExcused}, ExportAnswers.{StaysIfRefused, blob_named, blob_read, export_reply, exported_reply, led_reply, made_reply, or_told, verified_reply}, Beside.{found_under}, Looks.{IsDamaged, bytes_under}, results.{Exports.{FailsExport, NamesHeld, RefusesSource, TellsPath, TellsSource, made_at, CopyMeans, HasArrived, SharingMeans}, Success.{FailsAs, FailsFor}, Reads.{LinksToFile}}, ExportEffects.{Arrives, export_by, IsApart}, OpenWriters.{LeavesKnownCache}, OpenSucceeds.{MayTake, exported}, Succeeds.{NamesFolder}}
+use Rattle.cacache_laws.proofs.{Sure.{SureExports.{by_held, exports_answer}, SureCopies.{exports_succeed}}, results.{SureResults.{IsGiven, fails_for, fails_too, of_refused, for_memory}, Told.{called}}, Links.TargetBytes.{links_show}, Readings.Standing.{caches_stand}, Exports.{Arriving.{has_arrived}, Exported.{exports_arrive}, ExportEffects.{exports_keep}}, Putting.WrittenFiles.{free_writable}, Calls.{Replays.{calls_grow}, CallErrors.{excused_error}}}
 use Rattle.cacache_sync.specs.Exports.{exporting}
 use Rattle.cacache_history.specs.History.{NamesSource}
 use Rattle.cacache_core.specs.declared.errors.Fault.TheVariants as faults

@@ -1,21 +1,21 @@
 -- What comes of an export by the first way that is open, to a path that was asked for first.
 use Rattle.std.proofs.{Common.{arith, ◌≡◌, ◌⊎◌, inl, inr, ℕ, Bool, true, false, List, [], ◌∷◌, Option, Some, option_map, Result, Ok, Err, refl, sym, ap, subst, ◌∙◌}, lemmas.Grind.{common_steps}}
 use Rattle.std.specs.Prelude.{IfErr, MatchBool, MatchResult}
-use Rattle.cacache_core.specs.{declared.{errors.{Error.{Error, TheVariants.{EntryNotFound, IoError, IntegrityError, OutOfMemory}}, Fault.{Fault, TheVariants.{NotFound}}}, integrity.digest.Hash.{Hash}}, Integrity.{address}, PathNames.{Names, home_of}}
+use Rattle.cacache_core.specs.{declared.{errors.{Error.{Error, TheVariants.{EntryNotFound, IoError, IntegrityError, OutOfMemory}}, Fault.{Fault, TheVariants.{NotFound}}}, integrity.digest.Hash.{Hash}}, Integrity.{address}, Paths.{Names, home_of}}
 use Rattle.cacache_store.specs.{declared.{env.Env.{Env}, store.log.LogItem.{LogItem}}, Plain.{PlainAnswer}}
 use Rattle.cacache_store.specs.declared.store.answer.Answer.TheVariants as answers
 use Rattle.cacache_store.specs.declared.store.step.Step.TheVariants as steps
-use Rattle.cacache_disk.specs.{declared.{luck.Luck.TheVariants.{Plain}, node.Node.{Node}}, Apply.{apply}, LedTo.{and_then, free, linked, linked_in, place, where_free}, Tree.{Tree, look}, memory.Replay.{IsLog, tree_of}}
-use Rattle.cacache_entry.specs.Latest.{Found}
+use Rattle.cacache_disk.specs.{declared.{luck.Luck.TheVariants.{Plain}, node.Node.{Node}}, Apply.{apply}, LedTo.{and_then, free, linked, linked_in, place, where_free}, Tree.{Tree, look}, Replay.{IsLog, tree_of}}
+use Rattle.cacache_entry.specs.Bucket.{Found}
 use Rattle.cacache_calls.specs.{Answers.{done_in}, SingleSteps.{Does}, declared.{answers.Refusal.{Refusal}, command.{How.{How, TheVariants.{HardLink}}, Source.{Source}}}, Runs.{plain_reply, reply_of}}
 use Rattle.cacache_calls.specs.declared.answers.Refusal.TheVariants as refusals
-use Rattle.cacache_sync.specs.{declared.ways.{Exported.{Exported}, ExportMode.{ExportMode}}, Exports.{checked_export}, Ways.{Asks, AsksFree, ExportsBy, GoesOn, Tries, export_reply, free_in, is_closed, ways}}
+use Rattle.cacache_sync.specs.{declared.ways.{Exported.{Exported}, ExportMode.{ExportMode}}, Exports.{checked_export, Asks, AsksFree, ExportsBy, GoesOn, Tries, export_reply, free_in, is_closed, ways}}
 use Rattle.cacache_sync.specs.declared.ways.Exported.TheVariants as exporteds
 use Rattle.cacache_calls.specs.declared.command.Source.TheVariants as sources
 use Rattle.cacache_value.specs.{Shows.{blob_bytes}, Value.{value_of_tree}}
-use Rattle.cacache_history.specs.{History.{NamesSource}, ShownTurns.{blob_at}}
-use Rattle.cacache_laws.specs.{Caches.{Grows, IsCache, IsExcused}, ExportEffects.{IsApart, NamesBytes}, Exported.{Arrives}, Keeping.{StaysKnown}, Looks.{bytes_under}, OpenSucceeds.{MayTake, exported}, OpenWriters.{LeavesKnownCache}, Sequence.{IsSound}, Succeeds.{NamesFolder}, results.{Composed.{ExportMeans, IsTaken, WentOut}, Exports.{FailsExport, NamesHeld, RefusesSource}, Success.{FailsFor, FailsForMemory}}}
-use Rattle.cacache_laws.proofs.{Calls.{InParts.{logs_lead}, Logs.{excuses_last, growths_join, some_same}, CallErrors.{excused_error}}, Putting.OpenWriters.{excused_step, gains_grow}, Readings.{GivenReads.{same_stays_known}, Standing.{caches_stand}}, Spares.Unused.{unchanged}, Exports.Exported.{exports_arrive}, Sure.{SureCopies.{exports_succeed}, SureExports.{exports_answer}}, results.{ExportResults.{Answered, fails_so, is_given, leaves, may_take, refuses_so}, JoinedResults.{leavings_join}, SureResults.{IsGiven, for_memory}, Told.{called, front, steps_grow}}}
+use Rattle.cacache_history.specs.{History.{NamesSource}, Turns.{blob_at}}
+use Rattle.cacache_laws.specs.{Caches.{Grows, IsCache, IsExcused}, ExportEffects.{IsApart, NamesBytes, Arrives}, Beside.{StaysKnown}, Looks.{bytes_under}, OpenSucceeds.{MayTake, exported}, OpenWriters.{LeavesKnownCache}, Sequence.{IsSound}, Succeeds.{NamesFolder}, results.{Composed.{ExportMeans, IsTaken, WentOut}, Exports.{FailsExport, NamesHeld, RefusesSource}, Success.{FailsFor, FailsForMemory}}}
+use Rattle.cacache_laws.proofs.{Calls.{InParts.{logs_lead}, Replays.{excuses_last, growths_join, some_same}, CallErrors.{excused_error}}, Putting.OpenWriters.{excused_step, gains_grow}, Readings.{GivenReads.{same_stays_known}, Standing.{caches_stand}}, Spares.Unused.{unchanged}, Exports.Exported.{exports_arrive}, Sure.{SureCopies.{exports_succeed}, SureExports.{exports_answer}}, results.{ExportResults.{Answered, fails_so, is_given, leaves, may_take, refuses_so}, Told.{leavings_join, called, front, steps_grow}, SureResults.{IsGiven, for_memory}}}
 
 plain : (e : Exported) → plain_reply (export_reply e) ≡ export_reply e
 plain e = grind (arith, common_steps)

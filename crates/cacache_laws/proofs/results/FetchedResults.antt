@@ -3,13 +3,13 @@ use Rattle.std.proofs.{Common.{arith, rules, ◌≡◌, inl, inr, ◌<◌, ◌^�
 use Rattle.std.specs.Prelude.{IfOk, IsUtf8, MatchResult}
 use Rattle.cacache_core.specs.{declared.{errors.Error.{Error, TheVariants.{OutOfMemory}}, integrity.{algorithm.Algorithm.TheVariants.{Sha256}, digest.Hash.{Hash}}}, Integrity.{integrity_under}}
 use Rattle.cacache_store.specs.declared.{env.Env.{Env}, store.log.LogItem.{LogItem}}
-use Rattle.cacache_disk.specs.memory.Replay.{IsLog, tree_of}
+use Rattle.cacache_disk.specs.Replay.{IsLog, tree_of}
 use Rattle.cacache_calls.specs.declared.command.Command.TheVariants as commands
 use Rattle.cacache_calls.specs.Runs.{reply_of}
-use Rattle.cacache_sync.specs.{Damage.{lack_in}, GetOrPut.{GetsOrPuts, GoesOnFrom, MakesUp, PutsBytes, PutsFetched, once_stored}, Reads.{bytes_read}, put.Puts.{keyed_put}}
+use Rattle.cacache_sync.specs.{Reads.{lack_in, bytes_read}, Layers.{GetsOrPuts, GoesOnFrom, MakesUp, PutsBytes, PutsFetched, once_stored}, put.KeyedWriters.{keyed_put}}
 use Rattle.cacache_jobs.specs.Environment.{Calls}
 use Rattle.cacache_value.specs.Shows.{blob_bytes}
-use Rattle.cacache_laws.specs.{Caches.{Grows, HasContent, HasKey, IsCache, lies_under}, Keeping.{StaysKnown, found_under}, results.{Composed.{GotOrPut, LastsBeside}, Reads.{KeyLiesWhole, LiesWhole}, Writes.{DontClash}}}
+use Rattle.cacache_laws.specs.{Caches.{Grows, HasContent, HasKey, IsCache, lies_under}, Beside.{StaysKnown, found_under}, results.{Composed.{GotOrPut, LastsBeside}, Reads.{KeyLiesWhole, LiesWhole}, Writes.{DontClash}}}
 use Rattle.cacache_laws.proofs.results.{ReadResults.{key_read_means, lies_whole}, Told.{front, same_grows, steps_grow}, WriteResults.{write_means}}
 
 module _ {C N : Type 0} (moments : C → Option (List ℕ)) (numbers : N → Option (List ℕ)) (cache key : List ℕ) (utf8 : IsUtf8 key) where

@@ -1,9 +1,9 @@
 -- What comes of a question that is asked of one cache, and of another one if the first lacks this.
 use Rattle.std.proofs.{Common.{arith, rules, ◌≡◌, inl, inr, ℕ, Bool, true, false, List, Option, None, Some, Vec, Global, Result, Ok, Err, refl, sym, subst}, lemmas.Grind.{common_steps}}
 use Rattle.std.specs.Prelude.{MatchBool}
-use Rattle.cacache_core.specs.{declared.{errors.{Error.{TheVariants.{EntryNotFound, IoError}, Error}, Fault.TheVariants.{NotFound}}, integrity.digest.Hash.{Hash}}, Integrity.{IsIntegrity}, PathNames.{home_of}}
+use Rattle.cacache_core.specs.{declared.{errors.{Error.{TheVariants.{EntryNotFound, IoError}, Error}, Fault.TheVariants.{NotFound}}, integrity.digest.Hash.{Hash}}, Integrity.{IsIntegrity}, Paths.{home_of}}
 use Rattle.cacache_store.specs.declared.{env.Env.{Env}, store.log.LogItem.{LogItem}}
-use Rattle.cacache_disk.specs.memory.Replay.{IsLog, tree_of}
+use Rattle.cacache_disk.specs.Replay.{IsLog, tree_of}
 use Rattle.cacache_entry.specs.declared.metadata.Metadata.{Metadata}
 use Rattle.cacache_calls.specs.declared.command.Command.TheVariants as commands
 use Rattle.cacache_sync.specs.{declared.layers.Layered.{Layered}, Layers.{AsksHash, AsksLayers, FindsKey, ReadsHash, ReadsKey, finds_none, lacks_content, lacks_entry, says_no}}

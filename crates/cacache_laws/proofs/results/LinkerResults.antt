@@ -1,19 +1,17 @@
 -- What open linkers did.
 use Rattle.std.proofs.{Common.{rules, ◌≡◌, inl, inr, ◌<◌, ◌^◌, ◌+◌, false, ℕ, List, [], ◌∷◌, ◌++◌, Option, None, Some, Result, Ok, Err, length, map, take, refl, sym, ap, subst, ◌∙◌, append_assoc, arith}, lemmas.List.{append_cancel_left, length-append}}
-use Rattle.std.specs.{Prelude.{IsUtf8}, Io.{ReadsAtMost, KnownBytes.{Consumes, Keeps, ReadConsumes}}}
-use Rattle.serde_json.specs.Data.{Data, null}
-use Rattle.cacache_store.specs.Failures as io
-use Rattle.cacache_core.specs.{declared.{errors.Error.{Error}, integrity.digest.Hash.{Hash}}, Texts.{integrity_text}}
-use Rattle.cacache_entry.{specs.{Entry.{Entry}, FittingEntries.{AreBytes, IsJson, cause_of}}, proofs.WellRead.{IsJson-null}}
-use Rattle.cacache_store.specs.{declared.{env.Env.{Env}, store.{log.LogItem.{LogItem, TheVariants.{Made}}, plain.PlainFile.{PlainFile}}}, Handles.{LeftFalls}}
+use Rattle.std.specs.Io.{ReadsAtMost, KnownBytes.{Consumes, Keeps, ReadConsumes}}
+use Rattle.cacache_store.specs.Outside as io
+use Rattle.cacache_core.specs.declared.{errors.Error.{Error}, integrity.digest.Hash.{Hash}}
+use Rattle.cacache_entry.{specs.FittingEntries.{AreBytes, IsJson}, proofs.WellRead.{IsJson-null}}
+use Rattle.cacache_store.specs.{declared.{env.Env.{Env}, store.{log.LogItem.{LogItem, TheVariants.{Made}}, plain.PlainFile.{PlainFile}}}, Plain.{LeftFalls}}
 use Rattle.cacache_store.specs.declared.store.answer.Answer.TheVariants as answers
 use Rattle.cacache_store.specs.declared.store.step.Step.TheVariants as steps
-use Rattle.cacache_disk.specs.{Apply.{opened}, memory.Replay.{IsLog, shown, tree_of}}
-use Rattle.cacache_calls.specs.{declared.{command.Link.{Link}, reply.Reply.TheVariants.{Stored}}, Inserting.{entry_of, given_or, refused_cause}, Promises.{answered}, Linking.{based, commit_for, link_target, linked_to, target_at}, Runs.{Gains, Goes, Gone, Moves, Ran, reply_of, without_message}, State.{hashing, to_link}}
-use Rattle.cacache_calls.proofs.IntegrityUtf8.{integrity_utf8}
-use Rattle.cacache_sync.specs.{content.Passed.{passed}, put.{OpenLinkers.{HasHashed, LinkTarget, OpensLinker, OpensSized, OpensTarget, asks_file, asks_size, stands_at}, Options.{Said, options_of}}}
-use Rattle.cacache_laws.specs.{Caches.{Grows, IsCache, IsExcused}, ExportEffects.{IsApart}, LinkAnswers.{OpensAs, target_bytes}, Links.{FitsLink, HasLinked, LeavesLink, put_like}, OpenLinkers.{CanWrite, CommitsRest, SuitsSize, TargetOpened}, OpenWriters.{LeavesKnownCache}, Puts.{entry_of_put}, Succeeds.{NamesFolder}, results.{Handles.{IsText, LeadsToEntry, PlainSaysFit, SaysFit, said_integrity}, Writes.{SaysPlain}, Linkers.{IsLinking, LinkCommitsMean, LinkOpeningsMean, LinkedBytes, LinkersGoOn, MemLinker, OpenedLinker, SizedOpeningsMean}, Links.{LeadsOn}, Success.{FailsForMemory}}}
-use Rattle.cacache_laws.proofs.{Putting.Forms.{bare_written}, Calls.{Logs.{some_same}, CallErrors.{excused_error}}, Links.{OpenLinkers.{linkers_commit, linkers_fail}, TargetBytes.{linkers_open, linkers_open_sized}}, Readings.Standing.{caches_stand}, Sure.{SureLinks.{linkers_answer}, SureReaders.{linker_openings_answer, sized_openings_answer}}, results.{WriteResults.{lies_so, early_of}, SureResults.{commit_succeeds, shown_read}, Told.{plain_result}, WriterResults.{fits}}, trees.Logged.{gains_join}}
+use Rattle.cacache_disk.specs.{Apply.{opened}, Replay.{IsLog, shown, tree_of}}
+use Rattle.cacache_calls.specs.{declared.{command.Link.{Link}, reply.Reply.TheVariants.{Stored}}, Inserting.{refused_cause}, Promises.{answered}, Linking.{based, commit_for, link_target, linked_to, target_at}, Runs.{Gains, Goes, Gone, Moves, Ran, reply_of, without_message}, State.{hashing, to_link}}
+use Rattle.cacache_sync.specs.{content.OpenReads.{passed}, put.{OpenLinkers.{HasHashed, LinkTarget, OpensLinker, OpensSized, OpensTarget, asks_file, asks_size, stands_at}, KeyedWriters.{Said, options_of}}}
+use Rattle.cacache_laws.specs.{Caches.{Grows, IsCache, IsExcused}, ExportEffects.{IsApart}, LinkAnswers.{OpensAs, target_bytes}, Links.{FitsLink, put_like}, OpenLinkers.{CanWrite, CommitsRest, SuitsSize, TargetOpened}, OpenWriters.{LeavesKnownCache}, Puts.{MayLeadToPut, entry_of_put}, Succeeds.{NamesFolder}, results.{Handles.{IsText, LeadsToEntry, MayLeadToEntry, PlainSaysFit, SaysFit, said_integrity}, Writes.{SaysPlain}, Linkers.{IsLinking, LinkCommitsMean, LinkOpeningsMean, LinkedBytes, LinkersGoOn, MemLinker, OpenedLinker, SizedOpeningsMean}, Links.{LeadsOn}, Success.{FailsForMemory}}}
+use Rattle.cacache_laws.proofs.{Links.{Linking.{HasLinked, LeavesLink}, OpenLinkers.{linkers_commit, linkers_fail}, TargetBytes.{linkers_open, linkers_open_sized}}, Calls.{Replays.{some_same}, CallErrors.{excused_error}}, Readings.Standing.{caches_stand}, Sure.{SureLinks.{linkers_answer}, SureReaders.{linker_openings_answer, sized_openings_answer}}, results.{WriteResults.{lies_so, early_of}, SureResults.{commit_succeeds, shown_read}, Told.{plain_result}, WriterResults.{said_written, fits}}, trees.Logged.{gains_join}}
 
 -- ---- the moves of an opening
 
@@ -169,6 +167,15 @@ module _ (cache : List ℕ) (key : Option (List ℕ)) (base target : List ℕ) (
       let stored : i ≡ _ = h.stored ∙ ap (λ x. answered (said_integrity s held) s.integrity x) keyed in
       (entry_of_put cache (put_like link_of held) k, h.entry k keyed, record { integrity = sym stored; size = refl; metadata = refl; raw_metadata = refl })
 
+  may_lead_so : MayLeadToPut cache (put_like link_of held) old new → (k : List ℕ) → key ≡ Some k
+      → MayLeadToEntry cache k s (answered (said_integrity s held) s.integrity key) (length held) old new
+  may_lead_so may k is =
+      elim (may k is) [
+        | inl same ↦ inl same
+        | inr entry ↦
+            inr (entry_of_put cache (put_like link_of held) k, entry, record { integrity = ap (λ x. answered (said_integrity s held) s.integrity x) (sym is); size = refl; metadata = refl; raw_metadata = refl })
+      ]
+
   linked_bytes : (r : Result (List Hash) Error) → LeavesLink cache (put_like link_of held) (based base target) (reply_of Stored r) old new → IsCache cache new → Grows old new
       → ((e : Error) → r ≡ Err e → SaysPlain s → s.integrity ≡ None → IsExcused e old new)
       → (NamesFolder cache → SaysPlain s → s.integrity ≡ None → LeadsOn cache (said_integrity s held) old → FailsForMemory r) → LinkedBytes cache key (based base target) s held r old new
@@ -179,12 +186,13 @@ module _ (cache : List ℕ) (key : Option (List ℕ)) (base target : List ℕ) (
         grows = grows;
         stored = l.stored;
         leads = leads_so key refl i l;
+        may_lead = may_lead_so h.leads;
         lies = lies_so cache (based base target) (said_integrity s held) (said_integrity s held) old new refl l.lies;
         beside = h.beside;
         fails = λ plain none. tt;
         succeeds = succeeds;
       }
-  linked_bytes (Err e) h sound grows fails succeeds = search rules
+  linked_bytes (Err e) h sound grows fails succeeds = search (rules, may_lead_so)
 
 fits_link : (cache : List ℕ) (key : Option (List ℕ)) (base target : List ℕ) (s : Said) (size : Option ℕ) (moment : ℕ) → SaysFit s → IsText key → FitsLink cache (link_of cache key base target s size moment [] [] [])
 fits_link cache key base target s size moment says text =
@@ -195,14 +203,7 @@ fits_link cache key base target s size moment says text =
 can_write : (cache : List ℕ) (key : Option (List ℕ)) (base target : List ℕ) (s : Said) (size : Option ℕ) (moment : ℕ) (held : List ℕ) → SaysPlain s → s.integrity ≡ None → IsText key → length held < 2 ^ 64
     → ((k : List ℕ) → key ≡ Some k → moment < 2 ^ 64) → CanWrite cache (link_of cache key base target s size moment [] [] []) held
 unfolding refused_cause
-can_write cache key base target s size moment held plain none text small early k is =
-    let of : Option (List Hash) → Data → Option (List ℕ) → Entry
-    = λ i metadata raw.
-    entry_of k (Some (integrity_text (given_or (said_integrity s held) i))) (length held) moment
-    (record { algorithm = s.algorithm; size = None; integrity = i; metadata = metadata; raw_metadata = raw; durable = false }) in
-    let utf8 : IsUtf8 k = subst IsText is text in
-    let written = bare_written k (Some (integrity_text (said_integrity s held))) moment (length held) utf8 (integrity_utf8 (said_integrity s held)) (early k is) small in
-    ap cause_of (ap (λ i. of i s.metadata s.raw_metadata) none ∙ ap (λ m. of None m s.raw_metadata) plain.metadata ∙ ap (of None null) plain.raw_metadata) ∙ written.no_cause
+can_write cache key base target s size moment held plain none text small early k is = said_written cache k key s held moment plain none (subst IsText is text) small (early k is)
 
 pub link_commits_mean : {C N : Type 0} (moments : C → Option (List ℕ)) (new : Env (List LogItem) C N) → IsLog new.store → LinkCommitsMean moments new
 link_commits_mean moments new logged cache key path s held bytes w r old sound apart t says text h =

@@ -2,18 +2,18 @@
 -- What a loss of power left of durable puts, if their contents may be links.
 use Rattle.std.proofs.Common.{◌≡◌, ℕ, List, [], ◌∷◌, ◌++◌, Option, None, Some, Vec, Global, Result, Contains, arith, option_map, refl, sym, ap, subst, ◌∙◌}
 use Rattle.sha1.specs.Sha1.{sha1}
-use Rattle.cacache_core.specs.{declared.{errors.Error.{Error}, integrity.digest.Hash.{Hash}}, Digests.{digest}, Integrity.{IsIntegrity, Meets, hash_of, integrity_under}, PathNames.{Names, home_of}, Texts.{integrity_text}}
+use Rattle.cacache_core.specs.{declared.{errors.Error.{Error}, integrity.digest.Hash.{Hash}}, Integrity.{digest, IsIntegrity, Meets, hash_of, integrity_under}, Paths.{Names, home_of}, Texts.{integrity_text}}
 use Rattle.cacache_core.proofs.Printed.{printed}
 use Rattle.cacache_store.specs.declared.{env.Env.{Env}, store.log.LogItem.{LogItem}}
-use Rattle.cacache_disk.specs.{Rooted.{Rooted}, Tree.{Tree}, memory.Replay.{IsLog, tree_of}}
-use Rattle.cacache_entry.{specs.{Entry.{Entry}, Latest.{Found, NoneAnswers, answer_to, latest}}, proofs.Lookups.{last_answer_decides}}
+use Rattle.cacache_disk.specs.{Tree.{Rooted, Tree}, Replay.{IsLog, tree_of}}
+use Rattle.cacache_entry.{specs.{Entry.{Entry}, Bucket.{Found, NoneAnswers, answer_to, latest}}, proofs.Lookups.{last_answer_decides}}
 use Rattle.cacache_calls.specs.{declared.{command.Put.{Put}, reply.Reply.TheVariants.{Read}}, Inserting.{given_or}, Runs.{reply_of}}
 use Rattle.cacache_value.specs.{Acts.{list_of}, Placed.{Placed}, Value.{value_of_tree}, Shows.{blob_bytes}}
 use Rattle.cacache_loss.specs.{Loss.{Lost}, LostValues.{HoldsContent}}
 use Rattle.cacache_history.specs.{AddedEntries.{address_of_put}, Lookups.{found_of_put}, Setup.{home}, durable.Outlasting.{EntryOutlasts, KeyOutlasts, moment_at}}
 use Rattle.cacache_history.proofs.{Contents.Digests.{own_integrity}, Histories.PlacedAnswers.{answers_so}, Entries.Spelled.{HasIntegrity}}
 use Rattle.cacache_sync.specs.Reads.{bytes_read}
-use Rattle.cacache_laws.specs.{Caches.{HasKey, setup_at}, Inserts.{leads_to}, Keeping.{found_under}, ReadAnswers.{get_on, read_on}, results.{Reads.{LiesWhole}, Success.{FailsForMemory}, Losses.{LeadsToDigest, LeftReadMeans, LossesLeaveLast, LossesLeavePuts, LossesLeaveStanding, entry_written}, FoundLinks.{GivesDigest}, LeftLinks.{LeadsThrough, LossesLeaveLastLinks, LossesLeaveLinks}}}
+use Rattle.cacache_laws.specs.{Caches.{HasKey, setup_at}, Inserts.{leads_to}, Beside.{found_under}, ReadAnswers.{get_on, read_on}, results.{Reads.{LiesWhole}, Success.{FailsForMemory}, Losses.{LeadsToDigest, LeftReadMeans, LossesLeaveLast, LossesLeavePuts, LossesLeaveStanding, entry_written}, FoundLinks.{GivesDigest, LeadsThrough, LossesLeaveLastLinks, LossesLeaveLinks}}}
 use Rattle.cacache_laws.proofs.{Readings.{GivenReads.{same_stays_known}, Looks.{looks_keep, tree_stays}, Standing.{left_read, looks_leave_standing, standing_reads}}, Sure.Succeeds.{standing_key_reads}, results.{ReadResults.{given, lies_whole, whole_gives}, SureResults.{for_memory, or_as}, Told.{called}}}
 use Rattle.cacache_calls.specs.declared.command.Command.TheVariants as commands
 

@@ -1,18 +1,18 @@
 -- If no call exports or removes, steps leave what lies apart from the cache.
 use Rattle.std.proofs.{Common.{arith, rules, ◌≡◌, ◌==◌, ℕ, Bool, true, false, cond, List, [], ◌∷◌, Option, None, Some, option_map, refl, sym, ap, subst, ◌-◌, ◌++◌, Result, Ok, length, ◌∙◌, append_assoc}, lemmas.Grind.{common_steps}}
-use Rattle.cacache_core.specs.{PathNames.{Names, names_of}, declared.{errors.Fault.{Fault, TheVariants.{IsADirectory}}, integrity.digest.Hash.{Hash}}, Paths.{content_names}}
+use Rattle.cacache_core.specs.{Paths.{Names, names_of, content_names}, declared.{errors.Fault.{Fault, TheVariants.{IsADirectory}}, integrity.digest.Hash.{Hash}}}
 use Rattle.cacache_store.specs.Plain.{PlainStep, PlainAnswer}
 use Rattle.cacache_disk.specs.{declared.{luck.Luck.{Luck}, node.Node.{TheVariants.{Link, Folder, File}, Node}}, Tree.{Tree, look, bare, put, same_path}, LedTo.{free, bytes_there, dirs_fault, file_at, followed, leads, on_link, or_fault, place, where_no_folder}, Apply.{apply, above_last, if_missing, make_some, planted}}
 use Rattle.cacache_disk.proofs.{Changes.{apply_tree, unless_tree}, FoundNodes.{free_ok, and_then_ok, place_ok}, PutNodes.{look-put}, Roots.{look-bare}}
 use Rattle.cacache_calls.specs.{declared.reply.Reply.{Reply}, Licence.{KeepsTo, May, allows}, Sound.{Allowed}, Table.{opening, wants}}
 use Rattle.cacache_calls.proofs.{Within.{begins_within, goes_within, step_allowed}, Sound.{steps_allowed}}
-use Rattle.cacache_value.specs.{Kinds.{Bucket, Content, Elsewhere, Temporary, IsFor, path_kind}, OpeningTrees.{LieApart, with_files}, Placed.{Placed, Proper, MayStand}, Value.{AtLink, blob_in, value_of_tree}}
-use Rattle.cacache_value.proofs.{FoundPaths.{of_names, suits}, KindsApart.{kind-below}}
+use Rattle.cacache_value.specs.{Kinds.{Bucket, Content, Elsewhere, Temporary, IsFor, path_kind}, Placed.{LieApart, with_files, Placed, Proper, MayStand}, Value.{AtLink, blob_in, value_of_tree}}
+use Rattle.cacache_value.proofs.{Applying.{of_names, suits}, PathKinds.{kind-below}}
 use Rattle.cacache_history.specs.{declared.record.Record.{Record, TheVariants.{Began, Moved, Stopped}}, Setup.{Setup, call_site, home, is_outside, may_export}, History.{Call, History, IsLegal, Legal, Made, Now, call_after, initial, now_after, unless_over, now_at}, Turns.{made_in}, Values.{steps_of}, durable.Outlasting.{moment_at}, AddedEntries.{address_of_put}}
 use Rattle.cacache_history.proofs.{Histories.Holding.{AllHold, CallHolds, first_holds, made_proper, next_holds, of_caller, held_at}, durable.{QuietSteps.{temp_for}, Traces.{made_move, tree_at}}, Contents.{Digests.{digest_hash}, LinkedContents.{links_were_right}}}
-use Rattle.cacache_loss.specs.{CalmMoves.{is_calm}, Fixing.{moved_to, moves_file, rewrites_at, writes_at}, Moments.{EachMove, Moment, next, after}, Syncs.{Leaves, LeavesStep}}
-use Rattle.cacache_loss.proofs.{KeptPaths.{keeps, sync_tree}, StepCases.{make_apart, put_misses}, UnchangedPaths.{Misses, at_false, at_names, moved_false, rewrites_false, writes_false}}
-use Rattle.cacache_laws.{specs.results.FoundLinks.{OnlyLinksIn, linking_in, LinksLeadUnchanged}, proofs.trees.Within.{file_there}}
+use Rattle.cacache_loss.specs.{Moments.{is_calm, EachMove, Moment, next, after}, Fixing.{moved_to, moves_file, rewrites_at, writes_at}, Syncs.{Leaves, LeavesStep}}
+use Rattle.cacache_loss.proofs.{KeptPaths.{keeps, sync_tree}, StepCases.{make_apart, put_misses}, Reaching.{Misses, at_false, at_names, moved_false, rewrites_false, writes_false}}
+use Rattle.cacache_laws.{specs.results.FoundLinks.{OnlyLinksIn, linking_in, LinksLeadUnchanged}, proofs.trees.Stepping.{file_there}}
 use Rattle.cacache_store.specs.declared.store.step.Step.TheVariants as steps
 
 -- ---- steps

@@ -1,17 +1,17 @@
 -- What reads and questions gave and left.
 -- What a listing gave and left.
 use Rattle.std.proofs.{Common.{arith, rules, ◌≡◌, inl, inr, ℕ, Bool, true, false, List, [], Option, None, Some, Vec, Global, Result, Ok, Err, refl, sym, ap, subst, ◌∙◌, ◌∷◌, map}, lemmas.{Grind.{common_steps}, List.Elements.{All-nil, All-cons, All-head, All-tail}}}
-use Rattle.std.specs.Prelude.{IfOk, IfErr, option_map, All}
-use Rattle.cacache_core.specs.{declared.{errors.Error.{Error}, integrity.digest.Hash.{Hash}}, Integrity.{IsIntegrity}, PathNames.{home_of}}
+use Rattle.std.specs.Prelude.{IfOk, IfErr, MatchResult, option_map, All}
+use Rattle.cacache_core.specs.{declared.{errors.{Error.{TheVariants.{IntegrityError, OutOfMemory}, Error}, Fault.{Fault}}, integrity.digest.Hash.{Hash}}, Integrity.{Meets, IsIntegrity}, Paths.{home_of}}
+use Rattle.cacache_value.specs.{Value.{InFile}, Shows.{blob_bytes, blob_there}}
 use Rattle.cacache_store.specs.declared.{env.Env.{Env}, store.log.LogItem.{LogItem}}
-use Rattle.cacache_entry.specs.{declared.metadata.Metadata.{Metadata}, Latest.{Found}, View.{found_view}}
-use Rattle.cacache_calls.specs.{Replies.{looked_up, OrMemory, content_reply}, Runs.{reply_of, plain_item, plain_reply, without_message}, declared.reply.Reply.{Reply}, ListReplies.{In}, State.{Item}}
+use Rattle.cacache_entry.specs.{declared.metadata.Metadata.{Metadata}, Bucket.{Found}, View.{found_view}}
+use Rattle.cacache_calls.specs.{Replies.{looked_up, OrMemory, content_reply, In}, Runs.{reply_of, plain_item, plain_reply, without_message}, declared.reply.Reply.{Reply}, State.{Item}}
 use Rattle.cacache_sync.specs.Reads.{bytes_read}
-use Rattle.cacache_laws.specs.{Caches.{HasContent, HasKey, IsExcused, AStepFailed, GivesBytes, FindsNone, SaysThere, setup_at, Called}, Inserts.{leads_to}, Keeping.{found_under}, Looks.{GivesFound, GivesHeld, GivesOfKey, SaysAbsent}, ReadAnswers.{get_on, read_on}, Succeeds.{NamesFolder, exists_reply, is_yes}, results.{Reads.{ContentReadMeans, GivesJust, GivesNoEntry, LinksToFile, LiesWhole, KeyLiesWhole, KeyReadMeans, LookupMeans, QuestionMeans}, Success.{FailsForMemory}, Lists.{AreAllEntries, FailsListing, GivesError, ListingMeans}}, ListedKeys.{AreAllFound, GivesKeys, IsShown, ListsKeys}}
-use Rattle.cacache_laws.proofs.{Readings.{GivenReads.{asks_absent, asks_content, content_reads_give, key_reads_give, reads_content, reads_key, reads_none, finds_found}, Known.{caches_last}, Looks.{tree_stays}, Standing.{caches_stand, met_reply}}, Links.TargetBytes.{links_show}, Sure.{Succeeds.{content_reads_answer, key_reads_answer, lookups_answer, questions_answer}, SureLists.{listings_answer}}, results.{SureResults.{for_memory, for_missing, or_as}, Told.{called, looks_leave}}, Calls.CallErrors.{missing_error, excused_error, memory_error, plain_error}, Listings.ListedKeys.{listings_give}}
-use Rattle.cacache_disk.specs.memory.Replay.{IsLog, tree_of}
-use Rattle.cacache_value.specs.Shows.{blob_bytes, blob_there}
-use Rattle.cacache_history.specs.ShownTurns.{as_refusal}
+use Rattle.cacache_laws.specs.{Caches.{HasContent, HasKey, IsExcused, AStepFailed, GivesBytes, setup_at, Called}, Inserts.{leads_to}, Beside.{found_under}, Looks.{GivesFound, GivesHeld, GivesOfKey}, ReadAnswers.{get_on, read_on}, Succeeds.{NamesFolder, exists_reply, is_yes}, results.{Reads.{ContentReadMeans, GivesJust, GivesNoEntry, LinksToFile, LiesWhole, KeyLiesWhole, KeyReadMeans, LookupMeans, QuestionMeans}, Success.{FailsForMemory}, Lists.{AreAllEntries, FailsListing, GivesError, ListingMeans}}, ListedKeys.{AreAllFound, GivesKeys, IsShown, ListsKeys}}
+use Rattle.cacache_laws.proofs.{Readings.{GivenReads.{Says, asks_held, content_reads_give, key_reads_give, reads_key, finds_found}, Known.{caches_last}, Looks.{tree_stays}, Standing.{caches_stand, met_reply}}, Links.TargetBytes.{links_show}, Sure.{Succeeds.{content_reads_answer, key_reads_answer, lookups_answer, questions_answer}, SureLists.{listings_answer}}, results.{SureResults.{for_memory, for_missing, or_as}, Told.{called, looks_leave}}, Calls.CallErrors.{missing_error, excused_error, memory_error, plain_error}, Listings.ListedKeys.{listings_give}}
+use Rattle.cacache_disk.specs.Replay.{IsLog, tree_of}
+use Rattle.cacache_history.specs.Turns.{as_refusal}
 use Rattle.cacache_calls.specs.declared.command.Command.TheVariants as commands
 use Rattle.cacache_calls.specs.declared.reply.Reply.TheVariants as replies
 
@@ -20,8 +20,8 @@ use Rattle.cacache_calls.specs.declared.reply.Reply.TheVariants as replies
 pub given : (r : Result (Vec ℕ Global) Error) (Stays : Type 0) (bytes : List ℕ) (old new : List LogItem) → GivesBytes Stays bytes (reply_of bytes_read r) old new → GivesJust bytes r old new
 given r Stays bytes old new h = grind (arith, excused_error)
 
-none_given : (r : Result (Vec ℕ Global) Error) (cache key : List ℕ) (old new : List LogItem) → FindsNone cache key (reply_of bytes_read r) old new → GivesNoEntry cache key r old new
-none_given r cache key old new h = grind (arith, missing_error, excused_error)
+none_given : (r : Result (Vec ℕ Global) Error) (cache key : List ℕ) (old new : List LogItem) → found_under cache key old ≡ None → GivesOfKey cache key (reply_of bytes_read r) old new → GivesNoEntry cache key r old new
+none_given r cache key old new lacks h = grind (arith, missing_error, excused_error)
 
 whole_of : (r : Result (Vec ℕ Global) Error) (cache key : List ℕ) (old new : List LogItem) → GivesOfKey cache key (reply_of bytes_read r) old new → IfOk r (λ v. KeyLiesWhole cache key old v.items)
 whole_of r cache key old new h = grind (arith, common_steps)
@@ -66,7 +66,7 @@ key_read_means cache key r new logged old sound ran =
       leaves = looks_leave cache (commands.Get key) (reply_of bytes_read r) old.store new.store tt c (caches_last cache (commands.Get key) (reply_of bytes_read r) old.store new.store c tt tt sound);
       same = tree_stays cache (commands.Get key) (reply_of bytes_read r) old.store new.store tt c;
       gives = λ i bytes has. given r (HasKey cache key i bytes new.store) bytes old.store new.store (reads_key cache key bytes i (reply_of bytes_read r) old.store new.store sound has c).1;
-      lacks = λ lacks. none_given r cache key old.store new.store (reads_none cache key (reply_of bytes_read r) old.store new.store sound lacks c).1;
+      lacks = λ lacks. none_given r cache key old.store new.store lacks any;
       whole = whole_of r cache key old.store new.store any;
       linked = λ i target held leads at. linked_of r cache key target held i old.store leads at (whole_of r cache key old.store new.store any);
       any = any;
@@ -82,6 +82,14 @@ key_read_means cache key r new logged old sound ran =
 held_whole : (r : Result (Vec ℕ Global) Error) (cache : List ℕ) (i : List Hash) (old new : List LogItem) → GivesHeld cache i (reply_of bytes_read r) old new → IfOk r (λ v. LiesWhole cache i old v.items)
 held_whole r cache i old new h = grind (arith, common_steps)
 
+held_gives : (r : Result (Vec ℕ Global) Error) (cache : List ℕ) (i : List Hash) (bytes : List ℕ) (old new : List LogItem) → LiesWhole cache i old bytes → GivesHeld cache i (reply_of bytes_read r) old new → GivesJust bytes r old new
+held_gives (Ok v) cache i bytes old new lies h = let same : ◌≡◌ {A = Result (List ℕ) Fault} (Ok v.items) (Ok bytes) = sym h.0 ∙ lies.0 in cc
+held_gives (Err (IntegrityError fault)) cache i bytes old new lies h =
+    let same : ◌≡◌ {A = Result (List ℕ) Fault} (Ok h.0) (Ok bytes) = sym h.1 ∙ lies.0 in
+    let is : bytes ≡ h.0 = cc in
+    absurd (h.2 (subst (Meets i) is lies.1))
+held_gives (Err e) cache i bytes old new lies h = grind (arith, excused_error)
+
 pub content_read_means : {C N : Type 0} (cache : List ℕ) (i : List Hash) (r : Result (Vec ℕ Global) Error) (new : Env (List LogItem) C N) → IsIntegrity i → IsLog new.store → ContentReadMeans cache i r new
 content_read_means cache i r new formed logged old sound ran =
     let c = called bytes_read (λ b. refl) r cache old.base 0 (commands.GetHash i) old.store new.store ran.0.0 logged in
@@ -93,7 +101,7 @@ content_read_means cache i r new formed logged old sound ran =
     record {
       leaves = looks_leave cache (commands.GetHash i) (reply_of bytes_read r) old.store new.store tt c (caches_last cache (commands.GetHash i) (reply_of bytes_read r) old.store new.store c tt formed sound);
       same = tree_stays cache (commands.GetHash i) (reply_of bytes_read r) old.store new.store tt c;
-      gives = λ bytes has. given r (HasContent cache i bytes new.store) bytes old.store new.store (reads_content cache bytes i (reply_of bytes_read r) old.store new.store sound has c).1;
+      gives = λ bytes has. held_gives r cache i bytes old.store new.store (lies_whole cache i bytes old.store has) any;
       whole = held_whole r cache i old.store new.store any;
       linked = λ target held at. linked_held r cache target held i old.store at (held_whole r cache i old.store new.store any);
       any = any;
@@ -120,17 +128,16 @@ lookup_means cache key r new logged old sound ran =
           for_memory looked_up r (replies.LookedUp (found_under cache key old.store)) tt (lookups_answer cache key (reply_of looked_up r) old.store new.store folder (caches_stand cache old.store sound) c);
     }
 
-said : (r : Result Bool Error) (Stays : Type 0) (old new : List LogItem) → SaysThere Stays (reply_of replies.Exists r) old new
-    → IfOk r (λ there. there ≡ false → AStepFailed old new)
-said r Stays old new h = grind (arith, common_steps)
+said : (r : Result Bool Error) (Failed : Type 0) → Says true Failed (reply_of replies.Exists r) → MatchResult r (λ there. there ≡ false → Failed) (λ e. e ≡ OutOfMemory)
+said r Failed h = grind (arith, memory_error)
 
 -- a yes about bytes that lie there
 held_yes : (r : Result Bool Error) (cache : List ℕ) (i : List Hash) (bytes : List ℕ) (log : List LogItem) → HasContent cache i bytes log → OrMemory (reply_of replies.Exists r ≡ exists_reply cache i log) (reply_of replies.Exists r)
     → IfOk r (λ there. there ≡ true)
 held_yes r cache i bytes log has h = grind (arith, common_steps)
 
-denied : (r : Result Bool Error) → SaysAbsent (reply_of replies.Exists r) → IfOk r (λ there. there ≡ false)
-denied r h = grind (arith, common_steps)
+denied : (r : Result Bool Error) (Failed : Type 0) → Says false Failed (reply_of replies.Exists r) → MatchResult r (λ there. there ≡ false) (λ e. e ≡ OutOfMemory)
+denied r Failed h = grind (arith, memory_error)
 
 pub question_means : {C N : Type 0} (cache : List ℕ) (i : List Hash) (r : Result Bool Error) (new : Env (List LogItem) C N) → IsIntegrity i → IsLog new.store → QuestionMeans cache i r new
 question_means cache i r new formed logged old sound ran =
@@ -138,8 +145,8 @@ question_means cache i r new formed logged old sound ran =
     record {
       leaves = looks_leave cache (commands.Exists i) (reply_of replies.Exists r) old.store new.store tt c (caches_last cache (commands.Exists i) (reply_of replies.Exists r) old.store new.store c tt formed sound);
       same = tree_stays cache (commands.Exists i) (reply_of replies.Exists r) old.store new.store tt c;
-      there = λ bytes has. said r (HasContent cache i bytes new.store) old.store new.store (asks_content cache bytes i (reply_of replies.Exists r) old.store new.store sound has c).1;
-      absent = λ none. denied r (asks_absent cache i (reply_of replies.Exists r) old.store new.store sound formed none c);
+      there = λ bytes has. said r (AStepFailed old.store new.store) (asks_held true cache i (Some (InFile bytes)) (reply_of replies.Exists r) old.store new.store sound formed has.content refl c);
+      absent = λ none. denied r (AStepFailed old.store new.store) (asks_held false cache i None (reply_of replies.Exists r) old.store new.store sound formed none refl c);
       succeeds = λ folder.
           for_memory replies.Exists r (exists_reply cache i old.store) tt (questions_answer cache i (reply_of replies.Exists r) old.store new.store folder (caches_stand cache old.store sound) formed c);
       held = λ bytes folder has. held_yes r cache i bytes old.store has (questions_answer cache i (reply_of replies.Exists r) old.store new.store folder (caches_stand cache old.store sound) formed c);

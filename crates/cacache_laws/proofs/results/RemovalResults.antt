@@ -1,15 +1,15 @@
 -- What removals and clearings gave and left.
 use Rattle.std.proofs.{lemmas.Grind.{common_steps}, Common.{rules, ◌≡◌, inl, inr, ℕ, List, [], Option, None, Some, Result, Ok, Err, refl, ap, ◌∙◌, arith}}
 use Rattle.std.specs.Prelude.{OnOk, IfErr, IsUtf8}
-use Rattle.cacache_core.specs.{declared.{errors.{Error.{Error, TheVariants.{IoError, OutOfMemory}}, Fault.TheVariants.{NotFound, TooDeep}}, integrity.digest.Hash.{Hash}}, Integrity.{IsIntegrity}, PathNames.{home_of}}
-use Rattle.cacache_disk.specs.{declared.node.Node.{Node}, memory.Replay.{IsLog, tree_of}}
+use Rattle.cacache_core.specs.{declared.{errors.{Error.{Error, TheVariants.{IoError, OutOfMemory}}, Fault.TheVariants.{NotFound, TooDeep}}, integrity.digest.Hash.{Hash}}, Integrity.{IsIntegrity}, Paths.{home_of}}
+use Rattle.cacache_disk.specs.{declared.node.Node.{Node}, Replay.{IsLog, tree_of}}
 use Rattle.cacache_value.specs.{Kinds.{node_below}, Value.{Blob}}
 use Rattle.cacache_store.specs.declared.{env.Env.{Env}, store.log.LogItem.{LogItem}}
 use Rattle.cacache_calls.specs.declared.command.Command.TheVariants as commands
 use Rattle.cacache_calls.specs.{Inserting.{refused_cause}, Replies.{OrMemory, done}, Runs.{reply_of, without_message}, declared.reply.Reply.TheVariants.{Done, Refused}}
 use Rattle.cacache_sync.specs.Lookups.{delete_of}
-use Rattle.cacache_laws.specs.{Caches.{HasKey, IsEmptyCache, IsExcused, LacksKey, Empties, RemovesKey, lies_under}, Removed.{RemovesContent}, Keeping.{found_under}, Succeeds.{Clears, fully_reply, removal_reply, unless_unwritable}, results.Removals.{FailsClearing, ClearingMeans, ContentRemovalMeans, FullRemovalMeans, RemovalMeans}}
-use Rattle.cacache_laws.proofs.{Putting.{Puts.{removals_keep}, Forms.{bare_written}}, Calls.{Logs.{calls_grow}, CallErrors.{memory_error, excused_error}}, Readings.Standing.{caches_stand}, Sure.{Succeeds.{deletions_answer, removals_answer}, SureRemovals.{clearings_answer, full_removals_answer}}, Spares.Unused.{others_leave_none, stays_ready}, Removing.{RemovedKeys.{clearings_empty, removals_last, keys_go}, Removed.{contents_go}}, results.{SureResults.{for_memory, or_as}, Told.{called}}}
+use Rattle.cacache_laws.specs.{Caches.{HasKey, IsEmptyCache, IsExcused, LacksKey, Empties, lies_under}, Beside.{found_under}, Succeeds.{Clears, fully_reply, removal_reply, unless_unwritable}, results.Removals.{FailsClearing, ClearingMeans, ContentRemovalMeans, FullRemovalMeans, RemovalMeans}}
+use Rattle.cacache_laws.proofs.{Removing.{RemovedKeys.{RemovesKey, clearings_empty, removals_last, keys_go}, Removed.{RemovesContent, contents_go}}, Putting.{Puts.{removals_keep}, Stored.{bare_written}}, Calls.{Replays.{calls_grow}, CallErrors.{memory_error, excused_error}}, Readings.Standing.{caches_stand}, Sure.{Succeeds.{deletions_answer, removals_answer}, SureRemovals.{clearings_answer, full_removals_answer}}, Spares.Unused.{others_leave_none, stays_ready}, results.{SureResults.{for_memory, or_as}, Told.{called}}}
 use Rattle.cacache_history.specs.Values.{IsThere}
 
 gone : (r : Result (Unit {0}) Error) (cache key : List ℕ) (old new : List LogItem) → RemovesKey cache key (reply_of done r) old new → OnOk r (LacksKey cache key new) × IfErr r (λ e. IsExcused e old new)

@@ -3,14 +3,14 @@
 -- The moves of one call whose steps all succeed, as records of a history.
 use Rattle.std.proofs.{Common.{arith, rules, ◌≡◌, ◌⊎◌, inl, inr, ℕ, List, Result, Ok, Err, sym, subst, ◌∙◌, true, cond, [], Option, None, Some, refl, ap, ◌∷◌, ◌++◌, option_map}, lemmas.{Grind.{common_steps}, Bool.{eq-eqb}}}
 use Rattle.std.specs.Prelude.{IfOk, IfErr, IfSome}
-use Rattle.cacache_core.specs.{declared.{errors.{Error.{Error, TheVariants.{EntryNotFound, OutOfMemory, IoError, SizeMismatch}}, Fault.{Fault}}, integrity.digest.Hash.{Hash}}, PathNames.{Names}}
+use Rattle.cacache_core.specs.{declared.{errors.{Error.{Error, TheVariants.{EntryNotFound, OutOfMemory, IoError, SizeMismatch}}, Fault.{Fault}}, integrity.digest.Hash.{Hash}}, Paths.{Names}}
 use Rattle.cacache_store.specs.declared.store.log.LogItem.{LogItem}
 use Rattle.cacache_calls.specs.{declared.{reply.Reply.{Reply, TheVariants.{Refused, Stored}}, carried.Commit.{Commit}, command.Command.{Command}}, Replies.{OrMemory}, Runs.{reply_of, without_message, Moves, Goes}, Inserting.{given_or, refused_cause}, Storing.{insertion_of}, State.{over}}
 use Rattle.cacache_laws.specs.{Succeeds.{IsReady, IsTidy, compared_reply, is_yes, keyed_reply, sized_reply, unless_unwritable}, results.{Success.{FailsAs, FailsFor, FailsForMemory}, Links.{LeadsOn}}, Caches.{lies_under}, LinkAnswers.{linked_reply, unless_dangling}, Sequence.{AreAnswered}}
 use Rattle.cacache_laws.proofs.Calls.CallErrors.{memory_error, missing_error}
-use Rattle.cacache_disk.specs.{Apply.{apply, unless}, LedTo.{file_at}, Tree.{Tree}, memory.Replay.{bytes_told, shown, tree_of}, declared.luck.Luck.TheVariants.{Plain}}
+use Rattle.cacache_disk.specs.{Apply.{apply, unless}, LedTo.{file_at}, Tree.{Tree}, Replay.{bytes_told, shown, tree_of}, declared.luck.Luck.TheVariants.{Plain}}
 use Rattle.cacache_value.specs.{Shows.{blob_there}, Value.{Blob}}
-use Rattle.cacache_history.specs.{declared.record.Record.{Record, TheVariants.{Moved}}, History.{Call, Legal, Made, Now, call_after, now_after, replayed}, Setup.{Setup}, durable.{Ending.{CallEndsWith}, QuietMoves.{AreQuiet, IsQuietMove}}}
+use Rattle.cacache_history.specs.{declared.record.Record.{Record, TheVariants.{Moved}}, History.{Call, Legal, Made, Now, call_after, now_after, replayed}, Setup.{Setup}, durable.QuietMoves.{CallEndsWith, AreQuiet, IsQuietMove}}
 use Rattle.cacache_calls.specs.declared.reply.Reply.TheVariants as replies
 use Rattle.cacache_core.specs.declared.errors.Fault.TheVariants as faults
 use Rattle.cacache_store.specs.declared.store.answer.Answer.TheVariants as answers

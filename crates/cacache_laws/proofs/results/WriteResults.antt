@@ -5,14 +5,14 @@ use Rattle.std.specs.Prelude.{IfOk, IfErr, IsUtf8}
 use Rattle.serde_json.specs.Data.{Data, null}
 use Rattle.cacache_core.specs.{declared.{errors.Error.{Error, TheVariants.{IoError, SerdeError}}, integrity.{algorithm.Algorithm.{Algorithm, TheVariants.{Sha256}}, digest.Hash.{Hash}}}, Integrity.{integrity_under}, Texts.{integrity_text}}
 use Rattle.cacache_store.specs.declared.{env.Env.{Env}, store.log.LogItem.{LogItem}}
-use Rattle.cacache_disk.specs.memory.Replay.{IsLog, tree_of}
-use Rattle.cacache_entry.specs.{Entry.{Entry}, Latest.{Found, found_of}}
+use Rattle.cacache_disk.specs.Replay.{IsLog, tree_of}
+use Rattle.cacache_entry.specs.{Entry.{Entry}, Bucket.{Found, found_of}}
 use Rattle.cacache_calls.specs.{declared.{command.Insert.{Insert}, reply.Reply.TheVariants.{Refused, Stored}, carried.Commit.{Commit}}, Inserting.{entry_of, given_size, given_text, insertion, refused_cause}, Runs.{reply_of, without_message, Ran}, Linking.{based, commit_for, link_target, with_size}, Replies.{OrMemory}, Table.{opening}}
-use Rattle.cacache_calls.proofs.IntegrityUtf8.{integrity_utf8}
-use Rattle.cacache_jobs.specs.{Environment.{HasMoment}, Sites.{site_of}}
-use Rattle.cacache_sync.specs.put.{Options.{Said, options_of}, Puts.{insert_of, unkeyed_put}, LinkCalls.{link_to}}
-use Rattle.cacache_laws.specs.{Beside.{FitsEntry, KeepsBeside}, Caches.{Called, IsCache, HasContent, HasKey, IsExcused, WritesKey, plain_put, lies_under}, Inserts.{InsertsKey, leads_to}, Keeping.{found_under}, Puts.{MayLeadToPut}, Standing.{IsStanding, PutStands}, Succeeds.{NamesFolder, IsReady, put_reply, unless_unwritable}, results.{Success.{FailsForMemory}, Writes.{ContentWriteMeans, InsertionMeans, KeepsUntouched, SaysPlain, WriteMeans}, Losses.{LeftWriteMeans}, Links.{ContentLinkMeans, LiesLinked, LinkMeans, LinkedFile, LinksBytes}}, CallErrors.{IsPlainPut}, ExportEffects.{IsApart}, LinkAnswers.{link_reply, target_bytes}, Links.{FitsLink, HasLinked, LeavesLink, put_like}}
-use Rattle.cacache_laws.proofs.{Putting.{Puts.{plain_writes_fit, writes_keep, inserts_last, given_utf8}, Forms.{Written, bare_written, has_key}, StandingPuts.{puts_leave, puts_may_lead, standing_writes, writes_last}}, Calls.{CallErrors.{contents_fail, excused_error}, Logs.{calls_grow}}, Readings.{Known.{excuse, known}, Standing.{caches_stand}}, Sure.{Succeeds.{puts_answer, insertions_answer, either}, SureLinks.{links_answer}}, Spares.Unused.{others_leave_none, puts_leave_tidy, stays_ready}, results.{SureResults.{for_memory, so_ready, fails_for, or_as, IsWritten, commit_succeeds, shown_read}, Told.{called}}, Links.Linking.{links_last}}
+use Rattle.cacache_calls.proofs.Telling.{integrity_utf8}
+use Rattle.cacache_jobs.specs.{Environment.{HasMoment}, JobStates.{site_of}}
+use Rattle.cacache_sync.specs.put.{KeyedWriters.{Said, options_of, insert_of, unkeyed_put}, OpenLinkers.{link_to}}
+use Rattle.cacache_laws.specs.{Puts.{entry_of_put, MayLeadToPut}, Beside.{FitsEntry, KeepsBeside, found_under}, Caches.{Called, IsCache, HasContent, HasKey, IsExcused, plain_put, lies_under}, Inserts.{InsertsKey, leads_to}, Standing.{IsStanding, PutStands}, Succeeds.{NamesFolder, IsReady, put_reply, unless_unwritable}, results.{Success.{FailsForMemory}, Writes.{ContentWriteMeans, InsertionMeans, KeepsUntouched, SaysPlain, WriteMeans}, Losses.{LeftWriteMeans}, Links.{ContentLinkMeans, LiesLinked, LinkMeans, LinkedFile, LinksBytes}}, CallErrors.{IsPlainPut}, ExportEffects.{IsApart}, LinkAnswers.{link_reply, target_bytes}, Links.{FitsLink, put_like}}
+use Rattle.cacache_laws.proofs.{Links.Linking.{HasLinked, LeavesLink, links_last}, Putting.{Puts.{plain_writes_fit, writes_keep, inserts_last, given_utf8}, Stored.{Written, bare_written, has_key}, StandingPuts.{standing_writes}}, Calls.{CallErrors.{contents_fail, excused_error}, Replays.{calls_grow}}, Readings.{Known.{excuse, known}, Standing.{caches_stand}}, Sure.{Succeeds.{puts_answer, insertions_answer, either}, SureLinks.{links_answer}}, Spares.Unused.{others_leave_none, puts_leave_tidy, stays_ready}, results.{SureResults.{for_memory, so_ready, fails_for, or_as, IsWritten, commit_succeeds, shown_read}, Told.{called}}}
 use Rattle.cacache_value.specs.Value.{AtLink}
 use Rattle.cacache_history.specs.Values.{IsThere}
 use Rattle.cacache_calls.specs.declared.command.Command.TheVariants as commands
@@ -26,19 +26,9 @@ untouched cache written own added old new k = search rules
 
 -- ---- writes
 
-wrote_so : (r : Result (List Hash) Error) (cache key bytes : List ℕ) (own : List Hash) (old new : List LogItem) → IfOk r (λ i. i ≡ own) → WritesKey cache key bytes (reply_of Stored r) old new
-    → IfOk r (λ i. (i ≡ own) × HasKey cache key i bytes new) × IfErr r (λ e. IsExcused e old new)
-wrote_so r cache key bytes own old new is h = grind (arith, excused_error)
-
 pub leads_so : (cache key : List ℕ) (a : Algorithm) (bytes : List ℕ) (moment : ℕ) (old new : List LogItem) → MayLeadToPut cache (plain_put a key bytes moment) old new
     → (found_under cache key new ≡ found_under cache key old) ⊎ (leads_to cache key new ≡ Some (integrity_under a bytes))
 leads_so cache key a bytes moment old new may = search rules
-
--- the integrity that a write answered is that of its bytes
-own_of : (a : Algorithm) (cache key bytes : List ℕ) (moment : ℕ) (r : Result (List Hash) Error) (old new : List LogItem) → FitsEntry cache (plain_put a key bytes moment) → IsCache cache old
-    → Called cache (commands.Put (plain_put a key bytes moment)) (reply_of Stored r) old new → IfOk r (λ i. i ≡ integrity_under a bytes)
-own_of a cache key bytes moment (Ok i) old new fits sound c = (puts_leave cache (plain_put a key bytes moment) i old new fits tt sound c).stored
-own_of a cache key bytes moment (Err e) old new fits sound c = tt
 
 -- such a write stores, if memory isn't refused
 pub keyed_succeeds : (a : Algorithm) (cache key bytes : List ℕ) (moment : ℕ) (r : Result (List Hash) Error) (old new : List LogItem) → IsUtf8 key → length bytes < 2 ^ 64 → moment < 2 ^ 64 → IsReady cache old → IsStanding cache old
@@ -51,22 +41,50 @@ keyed_succeeds a cache key bytes moment r old new utf8 small early ready standin
     let answers = puts_answer cache p (reply_of Stored r) old new c ready.folder standing (ready.tidy c.number) in
     for_memory Stored r (Stored (integrity_under a bytes)) tt (or_as (reply_of Stored r) fits (either (reply_of Stored r) (λ h. h.0) answers))
 
+-- what a write gave and left on a standing store
+left_told : (a : Algorithm) (cache key bytes : List ℕ) (moment : ℕ) (r : Result (List Hash) Error) (old new : List LogItem) → PutStands cache (plain_put a key bytes moment) (reply_of Stored r) old new
+    → IsPlainPut cache key (plain_put a key bytes moment)
+    → IfOk r (λ i. (i ≡ integrity_under a bytes) × HasKey cache key i bytes new) × IfErr r (λ e. IsExcused e old new)
+left_told a cache key bytes moment (Ok i) old new k plain =
+    let h = k.stored i refl in
+    ((h.stored, has_key a cache key bytes moment i new h.stored (h.entry key refl) h.content), tt)
+left_told a cache key bytes moment (Err e) old new k plain = (tt, excused_error e old new (k.fails key (without_message e) plain refl))
+
+pub left_write_means : {C N : Type 0} (moments : C → Option (List ℕ)) (numbers : N → Option (List ℕ)) (a : Algorithm) (cache key bytes : List ℕ) (r : Result (List Hash) Error) (new : Env (List LogItem) C N)
+    → IsUtf8 key → length bytes < 2 ^ 64 → IsLog new.store → LeftWriteMeans moments numbers a cache key bytes r new
+unfolding refused_cause
+left_write_means moments numbers a cache key bytes r new utf8 small logged old standing ran =
+    let p = plain_put a key bytes ran.0 in
+    let c = called Stored (λ i. refl) r cache old.base ran.1 (commands.Put (plain_put a key bytes ran.0)) old.store new.store ran.4.0 logged in
+    let w = bare_written key (Some (integrity_text (integrity_under a bytes))) ran.0 (length bytes) utf8 (integrity_utf8 (integrity_under a bytes)) ran.2.1 small in
+    let k = standing_writes cache p (reply_of Stored r) old.store new.store (plain_writes_fit a cache key bytes ran.0 utf8 small ran.2.1) tt standing c in
+    let told = left_told a cache key bytes ran.0 r old.store new.store k (record { key_is = refl; no_integrity = refl; no_size = refl; written = w.no_cause }) in
+    record {
+      standing = k.standing;
+      stored = told.0;
+      leads = leads_so cache key a bytes ran.0 old.store new.store k.may_lead;
+      keeps = k.keeps;
+      fails = told.1;
+      succeeds = λ ready. keyed_succeeds a cache key bytes ran.0 r old.store new.store utf8 small ran.2.1 ready standing c;
+    }
+
+-- ---- on a cache
+
 pub write_means : {C N : Type 0} (moments : C → Option (List ℕ)) (numbers : N → Option (List ℕ)) (a : Algorithm) (cache key bytes : List ℕ) (r : Result (List Hash) Error) (new : Env (List LogItem) C N)
     → IsUtf8 key → length bytes < 2 ^ 64 → IsLog new.store → WriteMeans moments numbers a cache key bytes r new
 write_means moments numbers a cache key bytes r new utf8 small logged old sound ran =
     let p = plain_put a key bytes ran.0 in
     let c = called Stored (λ i. refl) r cache old.base ran.1 (commands.Put (plain_put a key bytes ran.0)) old.store new.store ran.4.0 logged in
     let fits = plain_writes_fit a cache key bytes ran.0 utf8 small ran.2.1 in
-    let w = writes_last a cache key bytes ran.0 (reply_of Stored r) old.store new.store utf8 small ran.2.1 sound c in
-    let told = wrote_so r cache key bytes (integrity_under a bytes) old.store new.store (own_of a cache key bytes ran.0 r old.store new.store fits sound c) w.1 in
+    let left = left_write_means moments numbers a cache key bytes r new utf8 small logged old (caches_stand cache old.store sound) ran in
     record {
-      sound = w.0;
+      sound = (writes_keep cache p (reply_of Stored r) old.store new.store fits sound c).0;
       grows = calls_grow cache (commands.Put p) (reply_of Stored r) old.store new.store c;
-      stored = told.0;
-      leads = leads_so cache key a bytes ran.0 old.store new.store (puts_may_lead cache p (reply_of Stored r) old.store new.store fits tt sound c);
-      keeps = untouched cache (Some key) (integrity_under a bytes) bytes old.store new.store (writes_keep cache p (reply_of Stored r) old.store new.store fits sound c).1;
-      fails = told.1;
-      succeeds = λ ready. keyed_succeeds a cache key bytes ran.0 r old.store new.store utf8 small ran.2.1 ready (caches_stand cache old.store sound) c;
+      stored = left.stored;
+      leads = left.leads;
+      keeps = untouched cache (Some key) (integrity_under a bytes) bytes old.store new.store left.keeps;
+      fails = left.fails;
+      succeeds = left.succeeds;
       ready = λ ready. so_ready Stored (λ i. tt) cache r old.store new.store (λ ready. puts_leave_tidy cache p (reply_of Stored r) old.store new.store c ready.folder fits sound ready.tidy) ready;
     }
 
@@ -78,7 +96,7 @@ no_entry a cache bytes key is = absurd cc
 content_so : (a : Algorithm) (cache bytes : List ℕ) (r : Result (List Hash) Error) (old new : List LogItem) → IsCache cache old → Called cache (commands.Put (unkeyed_put a bytes)) (reply_of Stored r) old new
     → IfOk r (λ i. (i ≡ integrity_under a bytes) × HasContent cache i bytes new) × IfErr r (λ e. IsExcused e old new)
 content_so a cache bytes (Ok i) old new sound c =
-    let h = puts_leave cache (unkeyed_put a bytes) i old new (no_entry a cache bytes) tt sound c in
+    let h = (standing_writes cache (unkeyed_put a bytes) (Stored i) old new (no_entry a cache bytes) tt (caches_stand cache old sound) c).stored i refl in
     ((h.stored, subst (λ j. HasContent cache j bytes new) (sym h.stored) h.content), tt)
 content_so a cache bytes (Err e) old new sound c =
     let p = unkeyed_put a bytes in
@@ -158,34 +176,6 @@ insertion_means moments numbers cache key said r new utf8 logged old plain sound
       ready = stays_ready cache old.store new.store (others_leave_none cache (commands.Insert i) (reply_of Stored r) old.store new.store c (λ none. w.formed) tt tt sound);
     }
 
--- ---- what a write gave and left on a standing store
-
-left_told : (a : Algorithm) (cache key bytes : List ℕ) (moment : ℕ) (r : Result (List Hash) Error) (old new : List LogItem) → PutStands cache (plain_put a key bytes moment) (reply_of Stored r) old new
-    → IsPlainPut cache key (plain_put a key bytes moment)
-    → IfOk r (λ i. (i ≡ integrity_under a bytes) × HasKey cache key i bytes new) × IfErr r (λ e. IsExcused e old new)
-left_told a cache key bytes moment (Ok i) old new k plain =
-    let h = k.stored i refl in
-    ((h.stored, has_key a cache key bytes moment i new h.stored (h.entry key refl) h.content), tt)
-left_told a cache key bytes moment (Err e) old new k plain = (tt, excused_error e old new (k.fails key (without_message e) plain refl))
-
-pub left_write_means : {C N : Type 0} (moments : C → Option (List ℕ)) (numbers : N → Option (List ℕ)) (a : Algorithm) (cache key bytes : List ℕ) (r : Result (List Hash) Error) (new : Env (List LogItem) C N)
-    → IsUtf8 key → length bytes < 2 ^ 64 → IsLog new.store → LeftWriteMeans moments numbers a cache key bytes r new
-unfolding refused_cause
-left_write_means moments numbers a cache key bytes r new utf8 small logged old standing ran =
-    let p = plain_put a key bytes ran.0 in
-    let c = called Stored (λ i. refl) r cache old.base ran.1 (commands.Put (plain_put a key bytes ran.0)) old.store new.store ran.4.0 logged in
-    let w = bare_written key (Some (integrity_text (integrity_under a bytes))) ran.0 (length bytes) utf8 (integrity_utf8 (integrity_under a bytes)) ran.2.1 small in
-    let k = standing_writes cache p (reply_of Stored r) old.store new.store (plain_writes_fit a cache key bytes ran.0 utf8 small ran.2.1) tt standing c in
-    let told = left_told a cache key bytes ran.0 r old.store new.store k (record { key_is = refl; no_integrity = refl; no_size = refl; written = w.no_cause }) in
-    record {
-      standing = k.standing;
-      stored = told.0;
-      leads = leads_so cache key a bytes ran.0 old.store new.store k.may_lead;
-      keeps = k.keeps;
-      fails = told.1;
-      succeeds = λ ready. keyed_succeeds a cache key bytes ran.0 r old.store new.store utf8 small ran.2.1 ready standing c;
-    }
-
 -- if nothing was said of a link, its integrity is that of its bytes
 own_is : (cache : List ℕ) (key : Option (List ℕ)) (target : List ℕ) (moment : ℕ) (path held : List ℕ) (i : List Hash) (old new : List LogItem)
     → HasLinked cache (put_like (link_to key target moment) held) path i old new → i ≡ integrity_under Sha256 held
@@ -196,6 +186,10 @@ pub lies_so : (cache path : List ℕ) (own i : List Hash) (old new : List LogIte
 lies_so cache path own i old new is h none = grind (arith, common_steps)
 
 module _ (cache : List ℕ) (key : Option (List ℕ)) (target : List ℕ) (moment : ℕ) (path held : List ℕ) (old new : List LogItem) where
+  may_lead_so : (k : List ℕ) → (found_under cache k new ≡ found_under cache k old) ⊎ (found_under cache k new ≡ Some (entry_of_put cache (put_like (link_to key target moment) held) k))
+      → (found_under cache k new ≡ found_under cache k old) ⊎ (leads_to cache k new ≡ Some (integrity_under Sha256 held))
+  may_lead_so k may = elim may [ inl same ↦ inl same | inr entry ↦ inr (ap (option_map (λ (f : Found). f.integrity)) entry) ]
+
   links_bytes : (r : Result (List Hash) Error) → LeavesLink cache (put_like (link_to key target moment) held) path (reply_of Stored r) old new → LinksBytes cache key path held r old new
   links_bytes (Ok i) h =
       let l = h.links i refl in
@@ -204,9 +198,10 @@ module _ (cache : List ℕ) (key : Option (List ℕ)) (target : List ℕ) (momen
         stored = own;
         leads = λ k is. ap (option_map (λ (f : Found). f.integrity)) (l.entry k is) ∙ ap Some (sym own);
         lies = lies_so cache path (integrity_under Sha256 held) i old new own l.lies;
+        may_lead = λ k is. may_lead_so k (h.leads k is);
         beside = h.beside;
       }
-  links_bytes (Err e) h = record { stored = tt; leads = tt; lies = tt; beside = h.beside }
+  links_bytes (Err e) h = record { stored = tt; leads = tt; lies = tt; may_lead = λ k is. may_lead_so k (h.leads k is); beside = h.beside }
 
 -- ---- calls
 

@@ -1,16 +1,17 @@
 -- What open writers did.
-use Rattle.std.proofs.{lemmas.{Grind.{common_steps}, Bool.{eq-eqb}}, Common.{rules, ◌≡◌, inl, inr, ◌<◌, ◌^◌, ◌++◌, ℕ, Bool, List, Option, None, Some, Result, Ok, Err, length, refl, sym, ap, subst, ◌∙◌, arith, ◌==◌, true, false, cond}}
+use Rattle.std.proofs.{lemmas.{Grind.{common_steps}, Bool.{eq-eqb}}, Common.{rules, ◌≡◌, inl, inr, ◌<◌, ◌^◌, ◌++◌, ℕ, List, Option, None, Some, Result, Ok, Err, length, refl, sym, ap, subst, ◌∙◌, arith, ◌==◌, true, false, cond}}
 use Rattle.std.specs.{Prelude.{IsUtf8, IfErr}, Io.KnownBytes.{Appends}}
-use Rattle.cacache_core.specs.{declared.{errors.{Error.{Error, TheVariants.{IoError, OutOfMemory, EntryNotFound, SizeMismatch, IntegrityError}}, IntegrityFault.TheVariants.{Check}, SerdeCause.{SerdeCause}}, integrity.{algorithm.Algorithm.{Algorithm}, digest.Hash.{Hash}}}, Integrity.{integrity_under}, Texts.{integrity_text}}
+use Rattle.cacache_core.specs.{declared.{errors.{Error.{Error, TheVariants.{IoError, OutOfMemory, EntryNotFound, SizeMismatch, IntegrityError}}, IntegrityFault.TheVariants.{Check}, SerdeCause.{SerdeCause}}, integrity.digest.Hash.{Hash}}, Texts.{integrity_text}}
 use Rattle.serde_json.specs.Data.{Data, null}
 use Rattle.cacache_store.specs.{declared.{env.Env.{Env}, store.{log.LogItem.{LogItem}, plain.PlainTemp.{PlainTemp}}}, Plain.{PlainAnswer}}
-use Rattle.cacache_disk.specs.memory.Replay.{IsLog}
-use Rattle.cacache_calls.specs.{declared.{command.Put.{Put}, reply.Reply.{Reply, TheVariants.{Stored, Refused}}, carried.Commit.{Commit}}, Inserting.{given_or, refused_cause}, Promises.{answered}, Runs.{reply_of, without_message}, SingleSteps.{Does}, StepPaths.{temp_path}, Storing.{put_commit, insertion_of, matches}}
-use Rattle.cacache_calls.proofs.IntegrityUtf8.{integrity_utf8}
-use Rattle.cacache_sync.specs.{content.OpenWrites.{RemovesTemp, TriesToRemove, counted_bytes}, put.{KeyedWriters.{CommitsWriter, OpensAt}, Options.{Said, options_of}}}
+use Rattle.cacache_disk.specs.Replay.{IsLog}
+use Rattle.cacache_calls.specs.{declared.{command.Put.{Put}, reply.Reply.{Reply, TheVariants.{Stored, Refused}}, carried.Commit.{Commit}}, Inserting.{given_or, refused_cause, entry_of}, Promises.{answered}, Runs.{reply_of, without_message}, SingleSteps.{Does}, Steps.{temp_path}, Storing.{put_commit, insertion_of, matches}}
+use Rattle.cacache_calls.proofs.Telling.{integrity_utf8}
+use Rattle.cacache_sync.specs.{content.OpenWrites.{RemovesTemp, TriesToRemove, counted_bytes}, put.KeyedWriters.{CommitsWriter, OpensAt, Said, options_of}}
 use Rattle.cacache_jobs.specs.Environment.{MomentOf}
-use Rattle.cacache_laws.specs.{Beside.{FitsEntry}, Caches.{IsCache}, GivenUp.{GivesUpTemp}, OpenWriters.{CommitsBytes}, Puts.{HasCommitted, MayLeadToPut, entry_of_put}, OpenSucceeds.{FileAt}, Succeeds.{put_reply, unless_unwritable, compared_reply, keyed_reply, sized_reply}, results.{Handles.{CommitsMean, CommitsSucceed, FailedWritesMean, GivingUpMeans, IsText, IsWriting, LeadsToEntry, MayLeadToEntry, MemWriter, OpenedWriter, OpeningsMean, SaysFit, WritersGoOn, said_integrity, CommitsTell, FailsCommit}, Writes.{SaysPlain}}}
-use Rattle.cacache_laws.proofs.{Putting.{OpenWriters.{commits_last, writers_open}, Forms.{bare_written}, Puts.{commits_keep, commits_leave}}, Readings.Standing.{caches_stand}, Sure.Succeeds.{commits_answer, openings_succeed, either}, Spares.Unused.{giving_up_lasts}, results.{Expected.{as_expected, suits_so, own_matches}, SureResults.{for_memory, of_refused, or_as}, Told.{plain_result}, WriteResults.{early_of, untouched}}}
+use Rattle.cacache_entry.specs.{Entry.{Entry}, FittingEntries.{cause_of}}
+use Rattle.cacache_laws.proofs.{Calls.CallErrors.{excused_error}, Putting.{Puts.{HasCommitted, commits_fail, commits_keep, commits_leave}, OpenWriters.{commits_last, writers_open}, Stored.{bare_written}}, Readings.Standing.{caches_stand}, Sure.Succeeds.{commits_answer, openings_succeed, either}, Spares.Unused.{giving_up_lasts}, results.{Told.{as_expected, suits_so, own_matches, plain_result}, SureResults.{for_memory, of_refused, or_as}, WriteResults.{early_of, untouched}}}
+use Rattle.cacache_laws.specs.{Beside.{FitsEntry}, Caches.{IsCache}, OpenWriters.{GivesUpTemp, CommitsBytes}, Puts.{MayLeadToPut, entry_of_put}, OpenSucceeds.{FileAt}, Succeeds.{put_reply, unless_unwritable, compared_reply, keyed_reply, sized_reply}, results.{Handles.{CommitsMean, CommitsSucceed, FailedWritesMean, GivingUpMeans, IsText, IsWriting, LeadsToEntry, MayLeadToEntry, MemWriter, OpenedWriter, OpeningsMean, SaysFit, WritersGoOn, said_integrity, CommitsTell, FailsCommit}, Writes.{SaysPlain}}}
 use Rattle.cacache_store.specs.declared.store.answer.Answer.TheVariants as answers
 use Rattle.cacache_store.specs.declared.store.step.Step.TheVariants as steps
 
@@ -72,6 +73,21 @@ put_of key s bytes moment = record { key = key; «data» = bytes; moment = momen
 pub fits : (cache : List ℕ) (key : Option (List ℕ)) (s : Said) (bytes : List ℕ) (moment : ℕ) → SaysFit s → IsText key → length bytes < 2 ^ 64 → FitsEntry cache (put_of key s bytes moment)
 fits cache key s bytes moment says text small k is = grind (arith, integrity_utf8)
 
+-- if nothing was said of an entry but its time, it can be written
+pub said_written : (cache k : List ℕ) (key : Option (List ℕ)) (s : Said) (bytes : List ℕ) (moment : ℕ) → SaysPlain s → s.integrity ≡ None → IsUtf8 k
+    → length bytes < 2 ^ 64 → moment < 2 ^ 64 → refused_cause (insertion_of (put_commit cache (put_of key s bytes moment)) k) ≡ None
+unfolding refused_cause
+said_written cache k key s bytes moment plain none utf8 small early =
+    let of : Option (List Hash) → Data → Option (List ℕ) → Entry
+    = λ i metadata raw.
+    entry_of k (Some (integrity_text (given_or (said_integrity s bytes) i))) (length bytes) moment
+    (record { algorithm = s.algorithm; size = None; integrity = i; metadata = metadata; raw_metadata = raw; durable = false }) in
+    let written = bare_written k (Some (integrity_text (said_integrity s bytes))) moment (length bytes) utf8 (integrity_utf8 (said_integrity s bytes)) early small in
+    ap cause_of (ap (λ i. of i s.metadata s.raw_metadata) none ∙ ap (λ m. of None m s.raw_metadata) plain.metadata ∙ ap (of None null) plain.raw_metadata) ∙ written.no_cause
+
+moment_early : {C : Type 0} (moments : C → Option (List ℕ)) (key : Option (List ℕ)) (time : Option ℕ) (old new : C) (moment : ℕ) → ((t : ℕ) → time ≡ Some t → t < 2 ^ 64) → MomentOf moments key time old new moment → moment < 2 ^ 64
+moment_early moments key time old new moment early h = grind (arith, early_of)
+
 module _ (cache : List ℕ) (key : Option (List ℕ)) (s : Said) (bytes : List ℕ) (w : MemWriter) (t : IsWriting cache key s bytes w) (small : length bytes < 2 ^ 64) where
   pub commits_bytes : {C N : Type 0} (moments : C → Option (List ℕ)) (r : Result (List Hash) Error) (old new : Env (List LogItem) C N) → IsLog new.store
       → (h : CommitsWriter (λ (f : PlainTemp). f) (λ (log : List LogItem). Some log) moments old new w bytes (reply_of Stored r))
@@ -114,6 +130,7 @@ commits_mean moments new logged cache key s bytes w (Ok i) old sound t says text
       may_lead = may_lead_so cache key s bytes h.0 old.store new.store kept.0;
       content = left.content;
       keeps = untouched cache key (said_integrity s bytes) bytes old.store new.store kept.1;
+      fails = λ k is plain none. tt;
     }
 commits_mean moments new logged cache key s bytes w (Err e) old sound t says text small h =
     let p = put_of key s bytes h.0 in
@@ -130,30 +147,29 @@ commits_mean moments new logged cache key s bytes w (Err e) old sound t says tex
       may_lead = may_lead_so cache key s bytes h.0 old.store new.store kept.0;
       content = tt;
       keeps = untouched cache key (said_integrity s bytes) bytes old.store new.store kept.1;
+      fails = λ k is plain none.
+          let early = moment_early moments w.key w.time old.clock new.clock h.0 (λ time at. plain.early time (sym t.time_is ∙ at)) h.1 in
+          let written = said_written cache k key s bytes h.0 plain none (subst IsText is text) small early in
+          excused_error e old.store new.store
+          (commits_fail cache k p t.number (without_message e) old.store new.store fit (record { key_is = is; no_integrity = none; no_size = plain.size; written = written }) t.opened sound c);
     }
 
 -- ---- commits that fail for memory alone
 
--- a put that expects nothing, and says nothing, stores
-plain_stores : (cache : List ℕ) (key : Option (List ℕ)) (bytes : List ℕ) (moment : ℕ) (a : Algorithm) (durable : Bool) → IsText key → length bytes < 2 ^ 64 → moment < 2 ^ 64
-    → put_reply cache (record { key = key; «data» = bytes; moment = moment; options = record { algorithm = a; size = None; integrity = None; metadata = null; raw_metadata = None; durable = durable } }) ≡ Stored (integrity_under a bytes)
-unfolding refused_cause
-plain_stores cache key bytes moment a durable text small early = grind (arith, bare_written, integrity_utf8)
+stores_at : (cache : List ℕ) (key : Option (List ℕ)) (s : Said) (bytes : List ℕ) (moment : ℕ) (at : Option (List ℕ)) → s.integrity ≡ None
+    → ((k : List ℕ) → at ≡ Some k → refused_cause (insertion_of (put_commit cache (put_of key s bytes moment)) k) ≡ None)
+    → keyed_reply (put_commit cache (put_of key s bytes moment)) at ≡ Stored (said_integrity s bytes)
+stores_at cache key s bytes moment None none written = refl
+stores_at cache key s bytes moment (Some k) none written =
+    ap (unless_unwritable (insertion_of (put_commit cache (put_of key s bytes moment)) k).reply) (written k refl) ∙ ap (λ i. Stored (given_or (said_integrity s bytes) i)) none
 
+-- a put that expects nothing, and says nothing, stores
 said_plain : (cache : List ℕ) (key : Option (List ℕ)) (s : Said) (bytes : List ℕ) (moment : ℕ) → SaysPlain s → s.integrity ≡ None → IsText key → length bytes < 2 ^ 64 → moment < 2 ^ 64
     → put_reply cache (put_of key s bytes moment) ≡ Stored (said_integrity s bytes)
 said_plain cache key s bytes moment plain none text small early =
-    let at : Option ℕ → Option (List Hash) → Data → Option (List ℕ) → Reply
-    = λ size integrity metadata raw.
-    put_reply cache (record { key = key; «data» = bytes; moment = moment; options = record { algorithm = s.algorithm; size = size; integrity = integrity; metadata = metadata; raw_metadata = raw; durable = s.durable } }) in
-    ap (λ x. at x s.integrity s.metadata s.raw_metadata) plain.size
-    ∙ ap (λ x. at None x s.metadata s.raw_metadata) none
-    ∙ ap (λ x. at None None x s.raw_metadata) plain.metadata
-    ∙ ap (λ x. at None None null x) plain.raw_metadata
-    ∙ plain_stores cache key bytes moment s.algorithm s.durable text small early
-
-moment_early : {C : Type 0} (moments : C → Option (List ℕ)) (key : Option (List ℕ)) (time : Option ℕ) (old new : C) (moment : ℕ) → ((t : ℕ) → time ≡ Some t → t < 2 ^ 64) → MomentOf moments key time old new moment → moment < 2 ^ 64
-moment_early moments key time old new moment early h = grind (arith, early_of)
+    let c = put_commit cache (put_of key s bytes moment) in
+    ap (compared_reply c) none ∙ ap (sized_reply c) plain.size
+    ∙ stores_at cache key s bytes moment key none (λ k is. said_written cache k key s bytes moment plain none (subst IsText is text) small early)
 
 pub commits_succeed : {C N : Type 0} (moments : C → Option (List ℕ)) (new : Env (List LogItem) C N) → IsLog new.store → CommitsSucceed moments new
 commits_succeed moments new logged cache key s bytes w r old sound folder file t plain none text small h =

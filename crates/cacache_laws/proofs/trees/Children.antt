@@ -2,14 +2,13 @@
 -- Trees with the same nodes in a folder list it alike.
 use Rattle.std.proofs.{Common.{◌≡◌, inl, inr, ◌+◌, ℕ, Bool, true, false, cond, List, [], ◌∷◌, ◌++◌, Option, None, Some, Ok, Err, length, take, drop, get_or, refl, sym, ap, ap₂, subst, ◌∙◌, arith, eqb-true, append_assoc, take-append-drop}, Math.Seq.{get_or-append_seam}, lemmas.{List.{drop_more, drop_all}, Bool.{and_parts, Decides.{Decides-eqb}}, Slice.Eq.{slice_eq-Decides}}}
 use Rattle.std.specs.{Prelude.{Result, IfSome, T, slice_index_or, filter_map}, declared.cmp.Ordering.{Ordering, TheVariants.{Less, Equal}}, Ordering.{is_lt, is_eq}, FinMap.Entries.{below_all, where_key, is_sorted-where_key, find-where_key, same_entries}, Bool.{nat_eq}, Cmp.Lexicographic.{pointwise}, List.{cons_option}}
-use Rattle.cacache_core.specs.{declared.errors.Fault.{Fault, TheVariants.{NotFound}}, PathNames.{Names, names_of, IsProperName}}
+use Rattle.cacache_core.specs.{declared.errors.Fault.{Fault, TheVariants.{NotFound}}, Paths.{Names, names_of, IsProperName}}
 use Rattle.cacache_store.specs.{declared.store.{answer.{Name.{Name}, Answer.TheVariants.{Names as Listed, Failed}}, step.Step.TheVariants.{ReadDir}}, Plain.{PlainAnswer}}
-use Rattle.cacache_disk.specs.{declared.{luck.Luck.{Luck}, node.Node.{Node, TheVariants.{Folder}}}, Tree.{Tree, look, names_cmp, same_path, listing, child_of, is_child, kind_of}, LedTo.{place, where_folder, folder}, Apply.{apply, unless, made_up}, Rooted.{Rooted, AreProper}}
-use Rattle.cacache_disk.proofs.{Maps.{same_path-true, total, only}, Roots.{same_self}, Standing.{way_clear}, FoundNodes.{and_then_ok, place_ok}}
+use Rattle.cacache_disk.specs.{declared.{luck.Luck.{Luck}, node.Node.{Node, TheVariants.{Folder}}}, Tree.{Tree, look, names_cmp, same_path, listing, child_of, is_child, kind_of, Rooted, AreProper}, LedTo.{place, where_folder, folder}, Apply.{apply, unless, made_up}}
+use Rattle.cacache_disk.proofs.{Maps.{same_path-true, total, only}, Roots.{same_self}, Standing.{way_clear}, FoundNodes.{and_then_ok, place_ok}, KeptFolders.{is_child-snoc}}
 use Rattle.cacache_value.proofs.Shows.{apply_answer}
 use Rattle.cacache_walks.specs.Reading.{names_shown}
 use Rattle.cacache_laws.proofs.trees.Members.{Member, mapped, source}
-use Rattle.cacache_loss.proofs.KeptPaths.{child_of_self}
 use Rattle.cacache_history.proofs.Listings.ToldFolders.{both_parts, folder_ok}
 use Rattle.std.specs.FinMap as map
 
@@ -24,7 +23,7 @@ found_in q [] node h = absurd cc
 found_in q (e ∷ es) node h = found_at q e es node (same_path q e.0) refl (found_in q es node) h
 
 child_is : (p : Names) (name : List ℕ) (node : Node) → child_of p (p ++ name ∷ [], node) ≡ Some (record { name = name; kind = kind_of node })
-child_is p name node = rw (child_of_self p name) (ap (λ (n : List ℕ). Some (record { name = n; kind = kind_of node })) (get_or-append_seam p name [] []))
+child_is p name node = rw (is_child-snoc p name) (ap (λ (n : List ℕ). Some (record { name = n; kind = kind_of node })) (get_or-append_seam p name [] []))
 
 pub child_listed : (t : Tree) (p : Names) (name : List ℕ) (node : Node) → look t (p ++ name ∷ []) ≡ Some node → Member (record { name = name; kind = kind_of node }) (listing t p)
 unfolding listing

@@ -2,13 +2,13 @@
 -- A repair leaves the good contents.
 use Rattle.std.proofs.{Common.{arith, rules, ◌≡◌, ◌++◌, inl, inr, ℕ, List, [], ◌∷◌, Bool, true, false, cond, Option, None, Some, Ok, Err, refl, sym, ap, subst, ◌∙◌, filter}, lemmas.{Grind.{common_steps}, Bool.{or_left, or_right, not-true}}}
 use Rattle.std.specs.Prelude.{All, Contains, not}
-use Rattle.cacache_core.specs.{declared.integrity.digest.Hash.{Hash}, Integrity.{IsHash, IsIntegrity, address}, PathNames.{Names, home_of}, Same.{same_hash-Decides}, Paths.{content_names}, Meeting.{meets}}
-use Rattle.cacache_disk.specs.{Tree.{Tree, look}, Rooted.{Rooted}}
-use Rattle.cacache_entry.specs.Latest.{Found}
+use Rattle.cacache_laws.specs.trees.{Verifying.{LeavesGood, KeepsContents, is_good, is_met}, Contents.{HoldsJust, content_in}, Idle.{LacksIdle}, Index.{IndexLists, IndexesFind, entries_in}, Collecting.{LinksLeadOut, IsLive, Removes, IsCollected, is_address, is_live}}
+use Rattle.cacache_laws.proofs.trees.{Indexed.{lists_each_key}, Keeping.{lacks_idle, removals_leave, stays}, Members.{Member, contains_member, member_contains}}
+use Rattle.cacache_core.specs.{declared.integrity.digest.Hash.{Hash}, Integrity.{IsHash, IsIntegrity, address}, Paths.{Names, home_of, content_names}, Comparing.{same_hash-Decides}, Matching.{meets}}
+use Rattle.cacache_disk.specs.Tree.{Tree, look, Rooted}
+use Rattle.cacache_entry.specs.Bucket.{Found}
 use Rattle.cacache_calls.specs.State.{Site, Item}
 use Rattle.cacache_value.specs.{Value.{Blob, value_of_tree, InFile}, Shows.{blob_bytes}}
-use Rattle.cacache_laws.specs.trees.{Contents.{HoldsJust, content_in}, Idle.{LacksIdle}, Index.{IndexLists, IndexesFind, entries_in}, Collecting.{LinksLeadOut, IsLive, Removes, IsCollected, is_address, is_live}, Mending.{RepairsLeave}, Verifying.{is_good, is_met}}
-use Rattle.cacache_laws.proofs.trees.{Indexed.{lists_each_key}, Keeping.{lacks_idle, removals_leave, stays}, Members.{Member, contains_member, member_contains}}
 
 -- ---- members of filters
 
@@ -121,7 +121,10 @@ file_met : (home : Names) (t new : Tree) (h : Hash) (bytes : List ℕ) (good : B
     → content_in home new h ≡ Some (InFile bytes) → meets (h ∷ []) bytes ≡ true
 file_met home t new h bytes good is kept gone there = grind (arith, common_steps)
 
-pub repairs_leave : RepairsLeave
+-- the good contents are left once the others were removed, and tombstones were added
+pub repairs_leave : (site : Site) (home : Names) (t mid new : Tree) (hashes : List Hash) (strange : List (List ℕ))
+    → home_of site.cache ≡ Some home → HoldsJust site.cache home t hashes strange
+    → Removes site.cache (filter (λ h. not (is_good home t h)) hashes) t mid → KeepsContents home mid new → LeavesGood home t new
 repairs_leave site home t mid new hashes strange is holds removed keeps =
     let kept = λ (h : Hash) (hash : IsHash h) (good : is_good home t h ≡ true). keeps.contents h ∙ picked_left site home t mid hashes strange (is_good home t) is holds removed h hash good in
     let gone = λ (h : Hash) (hash : IsHash h) (bad : is_good home t h ≡ false). keeps.contents h ∙ others_gone site home t mid hashes strange (is_good home t) is holds removed h hash bad in

@@ -1,5 +1,4 @@
 pub mod CompactLines
-pub mod KeptLines
 pub mod CompactTwice
 pub mod CompactAnswers
 pub mod CompactTexts

@@ -1,16 +1,16 @@
 -- A walk finds what is below its folder, and nothing else.
 use Rattle.std.proofs.{lemmas.{Grind.{common_steps}, List.Elements.{All-nil, All-cons, All-append}, Slice.Eq.{bytes_eq-Decides}}, Common.{rules, ◌≡◌, ◌==◌, ◌⊎◌, inl, inr, ◌+◌, ◌<◌, ℕ, Bool, true, false, List, [], ◌∷◌, ◌++◌, Option, None, Some, Ok, length, refl, sym, ap, subst, ◌∙◌, arith, append_assoc, append-nil}}
 use Rattle.std.specs.Prelude.{All, IsTrue, unwrap_or, bytes_eq}
-use Rattle.cacache_core.{specs.{PathNames.{Names, names_of, home_of, names_below, is_bad, IsProperName}, Paths.{join, joined}}, proofs.JoinedNames.{joined_texts_name}}
+use Rattle.cacache_core.{specs.Paths.{Names, names_of, home_of, names_below, is_bad, IsProperName, join, joined}, proofs.JoinedNames.{joined_texts_name}}
 use Rattle.cacache_store.specs.{declared.store.{answer.{Kind.{Kind}, Name.{Name}}, step.Step.TheVariants.{ReadDir}}, Plain.{PlainStep, PlainAnswer}}
 use Rattle.cacache_store.specs.declared.store.answer.Kind.TheVariants as kinds
-use Rattle.cacache_disk.specs.{declared.{luck.Luck.{Luck}, node.Node.{Node, TheVariants.{Folder, File, Link}}}, Tree.{Tree, look, listing, kind_of}, Rooted.{Rooted}, Apply.{apply}}
+use Rattle.cacache_disk.specs.{declared.{luck.Luck.{Luck}, node.Node.{Node, TheVariants.{Folder, File, Link}}}, Tree.{Tree, look, listing, kind_of, Rooted}, Apply.{apply}}
 use Rattle.cacache_calls.specs.Runs.{Moves}
 use Rattle.cacache_walks.specs.Reading.{Folder as Spot, ReadsFolders, top_folder, folder_as, file_as, folders_in, file_paths, files_shown, names_shown, shown_by}
 use Rattle.cacache_laws.specs.trees.Walks.{ReadAt, is_leaf, WalksFind, WalksStayBelow}
 use Rattle.cacache_laws.proofs.trees.{Members.{Member, contains_member, member_contains, in_left, in_right, in_either, mapped, source}, Children.{child_listed, none_below, proper_child, FolderShows, listed, missing, folder_shown, shown_stands}}
 use Rattle.cacache_history.proofs.Listings.ListingWalks.{joined_more}
-use Rattle.cacache_loss.proofs.CommitFolders.{named_home}
+use Rattle.cacache_loss.proofs.SyncedFolders.{named_home}
 
 -- ---- the names of a path's text
 

@@ -3,18 +3,18 @@
 use Rattle.std.proofs.{Common.{arith, rules, ◌≡◌, ◌≤◌, ℕ, Bool, true, false, cond, nat_le, List, [], ◌∷◌, ◌++◌, Option, None, Some, Result, Ok, Err, inl, inr, length, refl, sym, ap, ap₂, subst, ◌∙◌, leb-true, append-nil}, lemmas.{Grind.{common_steps}, List.Sums.{fold-append}, Slice.Eq.{bytes_eq-Decides}}}
 use Rattle.std.specs.{Prelude.{bytes_eq}, List.{AllByRecursion}}
 use Rattle.sha1.specs.Sha1.{sha1}
-use Rattle.cacache_core.specs.{declared.{errors.{Fault.{Fault, TheVariants.{ShortAppend}}, SerdeCause.{SerdeCause}}, integrity.digest.Hash.{Hash}}, PathNames.{Names, home_of, names_below, names_of}, Paths.{bucket_names_of, joined, content_names}, Integrity.{IsHash}}
+use Rattle.cacache_core.specs.{declared.{errors.{Fault.{Fault, TheVariants.{ShortAppend}}, SerdeCause.{SerdeCause}}, integrity.digest.Hash.{Hash}}, Paths.{Names, home_of, names_below, names_of, bucket_names_of, joined, content_names}, Integrity.{IsHash}}
 use Rattle.cacache_store.specs.Plain.{PlainAnswer, PlainStep}
-use Rattle.cacache_disk.specs.{declared.luck.Luck.TheVariants.{Plain}, Tree.{Tree}, Apply.{apply}, Rooted.{Rooted}}
+use Rattle.cacache_disk.specs.{declared.luck.Luck.TheVariants.{Plain}, Tree.{Tree, Rooted}, Apply.{apply}}
 use Rattle.cacache_disk.proofs.{Roots.{same_self}, Changes.{at_cut, at_put, at_rest, step_at}, KeptFolders.{steps_keep_rooted}}
-use Rattle.cacache_entry.{specs.{Entry.{Entry, line_of}, Latest.{after_entry, latest}}, proofs.EntryCauses.{Fits-no_cause}}
-use Rattle.cacache_calls.specs.{declared.{command.Delete.{Delete}, reply.Reply.{Reply, TheVariants.{Done}}}, Common.{fails}, Inserting.{bucket_line, deletion, recorded, refused_cause, unless_refused}, Runs.{Moves, Runs}, State.{Insertion, Site, State, appending, doing, make_folder, over}, StepPaths.{bucket_folder, bucket_path}, Table.{after, opening}}
+use Rattle.cacache_entry.{specs.{Entry.{Entry, line_of}, Bucket.{after_entry, latest}}, proofs.EntryCauses.{Fits-no_cause}}
+use Rattle.cacache_calls.specs.{declared.{command.Delete.{Delete}, reply.Reply.{Reply, TheVariants.{Done}}}, Common.{fails}, Inserting.{bucket_line, deletion, recorded, refused_cause, unless_refused}, Runs.{Moves, Runs}, State.{Insertion, Site, State, appending, doing, make_folder, over}, Steps.{bucket_folder, bucket_path}, Table.{after, opening}}
 use Rattle.cacache_calls.proofs.Sound.{begins_sound, stays_sound}
 use Rattle.cacache_value.specs.{Acts.{MakeFolders, act_at, act_of, act_with, change, folders_left, list_of}, Kinds.{is_path_of, Bucket, Content, Elsewhere, Way, path_kind}, Placed.{Placed, Proper}, Value.{Value, wide_value}}
-use Rattle.cacache_value.proofs.{AppendedLines.{whole_lines_add}, Traces.{steps_act, steps_keep_placed}, KindsApart.{kind-below}, Temps.{put_for, takes}}
+use Rattle.cacache_value.proofs.{MadeFolders.{whole_lines_add}, Traces.{steps_act, steps_keep_placed}, PathKinds.{kind-below}, Temps.{put_for, takes}}
 use Rattle.cacache_history.specs.Setup.{Setup, is_outside, may_export}
-use Rattle.cacache_history.proofs.{Proper.{sound_proper}, Histories.ShownTurns.{bucket_below}, Entries.{Formed.{step_formed}, Keyed.{ToKeys, step_keyed}, Owned.{AppendsOwn, step_own}}}
-use Rattle.cacache_laws.specs.{Caches.{setup_at}, Sequence.{tree_on, AreAnswered}, trees.{Mending.{TombstonesHide}, Collecting.{Removes}, Housed.{Beside, Housed, Still, TombstonesHouse}}}
+use Rattle.cacache_history.proofs.{StepActs.{sound_proper}, Histories.ShownTurns.{bucket_below}, Entries.{Spelled.{step_formed}, Bucketed.{ToKeys, step_keyed}, Owned.{AppendsOwn, step_own}}}
+use Rattle.cacache_laws.specs.{Caches.{setup_at}, Sequence.{tree_on, AreAnswered}, trees.{Verifying.{TombstonesHide}, Collecting.{Removes}, Housed.{Beside, Housed, Still}}}
 use Rattle.cacache_laws.proofs.trees.{Keeping.{stays}, Members.{Member}}
 use Rattle.cacache_loss.proofs.StepCases.{dirs_keep, make_keeps}
 use Rattle.cacache_store.specs.declared.store.answer.Answer.TheVariants as answers
@@ -265,6 +265,9 @@ module _ (site : Site) (d : Delete) (formed : calls.FormedIfWritten (deletion si
       let proper = subst (AllProper site d formed) b.are (proper_run site d formed (opening site (commands.Delete d)) moves Done sound run) in
       subst (λ ms. Housed (home_of site.cache) (tree_on t ms) × Still (home_of site.cache) t (tree_on t ms)) (sym b.are) (two_house t b.fits proper.0 proper.1.0 h)
 
-pub tombstones_house : TombstonesHouse
+-- a call that adds a tombstone leaves each thing in its place, and what is apart from the cache
+pub tombstones_house : (site : Site) (home : Names) (d : Delete) (moves : Moves) (t : Tree) → home_of site.cache ≡ Some home
+    → calls.FormedIfWritten (deletion site.cache d) → Runs (opening site (commands.Delete d)) moves Done → AreAnswered t moves
+    → Housed (Some home) t → Housed (Some home) (tree_on t moves) × Still (Some home) t (tree_on t moves)
 tombstones_house site home d moves t is formed run answered h =
     subst (λ f. Housed f (tree_on t moves) × Still f t (tree_on t moves)) is (houses site d formed moves t run (subst (λ f. Housed f t) (sym is) h))

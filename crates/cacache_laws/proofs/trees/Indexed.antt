@@ -2,17 +2,18 @@
 -- The listed addresses are those that the value holds.
 use Rattle.std.proofs.{lemmas.{Grind.{common_steps}, List.Elements.{All-cons, All-nil}}, Common.{rules, ◌≡◌, inl, inr, ℕ, ◌+◌, List, [], ◌∷◌, ◌++◌, Option, Some, None, Bool, true, false, cond, nat_lt, Result, Ok, Err, refl, sym, ap, ap₂, subst, ◌∙◌, append_assoc, arith}}
 use Rattle.std.specs.Prelude.{◌↔◌, Contains, map}
+use Rattle.cacache_calls.specs.declared.command.Command.TheVariants as commands
+use Rattle.cacache_calls.specs.{declared.{reply.Reply.TheVariants.{Listed}, visit.{Task.{Task, TheVariants.{Make, Stumble}}, Visit.TheVariants.{Enter, ReadBucket}}}, Table.{opening}, Runs.{Runs, Moves}, State.{Item, Site}, Walking.{task_for_name, tasks_of, items_in}, Replies.{items_given, given_by}, Steps.{bucket_path}}
+use Rattle.cacache_laws.specs.trees.{Index.{is_failure}, Walks.{is_leaf}, Answers.{AnsweredBy}, Contents.{ContentsShown, AreThoseOf, IsHeld, LiesBelow, HoldsJust}}
+use Rattle.cacache_laws.proofs.{trees.{Members.{Member, contains_member, in_left, in_right, member_contains}, Children.{child_listed, none_below, proper_child, FolderShows, listed, missing, folder_shown}, Covering.{named_on, walks_find, walks_stay}, Listing.{ReadsAll, Good, listing_runs}, Logged.{copies, read_at, is_copy}}, Listings.ListedTurns.{lists_found}}
 use Rattle.sha1.specs.Sha1.{sha1}
-use Rattle.cacache_core.specs.{declared.{errors.Fault.{Fault, TheVariants.{NotFound, TooDeep, IsADirectory}}, integrity.digest.Hash.{Hash}}, PathNames.{Names, names_of, home_of, IsProperName}, Paths.{join, joined, cut_digits, bucket_names, index_area, content_names, content_area}, Integrity.{IsHash}, Texts.{name_of}}
+use Rattle.cacache_core.specs.{declared.{errors.Fault.{Fault, TheVariants.{NotFound, TooDeep, IsADirectory}}, integrity.digest.Hash.{Hash}}, Paths.{Names, names_of, home_of, IsProperName, join, joined, cut_digits, bucket_names, index_area, content_names, content_area}, Integrity.{IsHash}, Texts.{name_of}}
 use Rattle.cacache_core.proofs.{JoinedNames.{joined_texts_name}, ProperNames.{names_are_proper, proper_bucket_folder, proper_content_folder, proper_content}, PathLemmas.{keys_have_digests}}
 use Rattle.hex.specs.Hex.{encode_lower}
 use Rattle.cacache_store.specs.{declared.store.{answer.{Kind.{Kind}, Name.{Name}, Answer.TheVariants.{Bytes}}, step.Step.TheVariants.{ReadAll}}, Plain.{PlainStep, PlainAnswer}}
-use Rattle.cacache_disk.specs.{declared.{luck.Luck.TheVariants.{Plain}, node.Node.{Node, TheVariants.{Folder, File, Link}}}, Tree.{Tree, look, listing}, LedTo.{and_then, or_fault, on_link, bytes_there, standing, way_fault, place, followed, leads, file_at}, Rooted.{Rooted}, Apply.{apply, unless}}
-use Rattle.cacache_entry.specs.{Bucket.{entries_of}, Latest.{Found, latest}}
-use Rattle.cacache_calls.specs.{State.{Item, Site}, declared.visit.{Task.{Task, TheVariants.{Make, Stumble}}, Visit.TheVariants.{Enter, ReadBucket}}, Walking.{task_for_name, tasks_of, items_in}, Runs.{Moves}, ListReplies.{items_given, given_by}, StepPaths.{bucket_path}}
+use Rattle.cacache_disk.specs.{declared.{luck.Luck.TheVariants.{Plain}, node.Node.{Node, TheVariants.{Folder, File, Link}}}, Tree.{Tree, look, listing, Rooted}, LedTo.{and_then, or_fault, on_link, bytes_there, standing, way_fault, place, followed, leads, file_at}, Apply.{apply, unless}}
+use Rattle.cacache_entry.specs.Bucket.{entries_of, Found, latest}
 use Rattle.cacache_walks.specs.{Reading.{names_shown, ReadsFolders, top_folder, files_shown}, Listing.{Sorts, IsByHash, content_area_in}}
-use Rattle.cacache_laws.specs.trees.{Walks.{is_leaf}, Answers.{AnsweredBy}, Index.{ListsEachKey}, Contents.{ContentsShown, AreThoseOf, IsHeld, LiesBelow, HoldsJust, ListingsHold}}
-use Rattle.cacache_laws.proofs.{trees.{Members.{Member, contains_member, in_left, in_right, member_contains}, Children.{child_listed, none_below, proper_child, FolderShows, listed, missing, folder_shown}, Covering.{named_on, walks_find, walks_stay}, Listing.{ReadsAll, Good, listing_runs}, Logged.{copies, read_at, is_copy}}, Listings.ListedTurns.{lists_found}}
 use Rattle.cacache_value.specs.Value.{Blob, InFile, AtLink, blob_in}
 use Rattle.cacache_store.specs.declared.store.answer.Kind.TheVariants as kinds
 
@@ -150,7 +151,12 @@ module _ (site : Site) (home : Names) (t : Tree) (rooted : Rooted t) (is : home_
       let read = reaches t rooted moves (Make (Enter (join site.cache index_area) 0) ∷ []) g.reads answered (join site.cache index_area) 0 (home ++ index_area ∷ []) _ _ (inl refl) (index_named key) leaf in
       g.gives (Ok found) (given_member (reads t rooted path) moves (Ok found) read (rw answer (lists_found key (entries_of bytes) found e)))
 
-pub lists_each_key : ListsEachKey
+-- a listing without such an error lists what the lookup of each key finds
+pub lists_each_key : (site : Site) (home : Names) (t : Tree) (moves : Moves) (items : List Item) (key bytes : List ℕ) (found : Found)
+    → home_of site.cache ≡ Some home → Rooted t → Runs (opening site commands.Ls) moves (Listed items) → AnsweredBy t moves
+    → ((item : Item) → Contains items item → is_failure item ≡ false)
+    → (apply t (ReadAll (bucket_path site.cache key)) Plain).0 ≡ Bytes bytes → latest key (entries_of bytes) ≡ Some found
+    → Contains items (Ok found)
 lists_each_key site home t moves items key bytes found is rooted run answered fine answer e = search (rules, listing_runs, contains_member, item_in, answered)
 
 leaf_held : (here : Option Node) → is_leaf here ≡ true → (blob : Blob) × (blob_in here ≡ Some blob)
@@ -258,6 +264,3 @@ module _ (cache : List ℕ) (home : Names) (t : Tree) (moves : Moves) (is : home
         (λ o. (sorts.others path).1 (shown_below path o.0, o.1)),
       );
     }
-
-pub listings_hold : ListingsHold
-listings_hold cache home t moves addresses strange order is rooted reads answered sorts = holds_just cache home t moves is rooted reads answered addresses strange sorts order

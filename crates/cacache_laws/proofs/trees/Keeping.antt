@@ -2,21 +2,20 @@
 -- A call that adds a tombstone leaves the contents.
 use Rattle.std.proofs.{lemmas.{Grind.{common_steps}, List.{append_cancel_left}, Bool.{false_from_ne_true}}, Common.{rules, ◌≡◌, ◌⊎◌, inl, inr, ℕ, List, [], ◌∷◌, ◌++◌, Some, None, Bool, true, false, cond, Result, Ok, Err, refl, sym, ap, subst, ◌∙◌, arith, Option}}
 use Rattle.std.specs.Prelude.{Contains}
-use Rattle.sha1.specs.Sha1.{sha1}
-use Rattle.cacache_core.specs.{declared.{errors.Fault.{Fault, TheVariants.{NotFound}}, integrity.digest.Hash.{Hash}}, Integrity.{IsHash, IsIntegrity}, PathNames.{Names, names_of, home_of}, Paths.{joined, content_names, bucket_names, bucket_names_of}}
-use Rattle.cacache_core.proofs.{JoinedNames.{joined_texts_name}, ProperNames.{names_are_proper}, PathLemmas.{keys_have_digests}, PathTexts.{paths_differ}}
-use Rattle.cacache_store.specs.{declared.store.{step.Step.TheVariants.{ReadAll, RemoveFile}, answer.Answer.TheVariants.{Done}}, Plain.{PlainAnswer, PlainStep}}
-use Rattle.cacache_disk.specs.{declared.luck.Luck.TheVariants.{Plain}, Tree.{Tree, look, cut, same_path}, LedTo.{removable}, Apply.{apply, unless}, Rooted.{Rooted}}
-use Rattle.cacache_disk.proofs.{Maps.{same_path-true}, Roots.{same_self}, FoundNodes.{removable_ok}, PutNodes.{look-cut}}
-use Rattle.cacache_entry.specs.Latest.{Found}
-use Rattle.cacache_calls.specs.{declared.reply.Reply.{Reply, TheVariants.{Listed}}, State.{looking, Site, Item, State}, StepPaths.{addressed, bucket_path, content_path}, Table.{opening, after}, Runs.{Moves, Runs}, Licence.{Licence, AllMay, May, allows, looking_up}}
+use Rattle.cacache_calls.specs.{Inserting.{deletion}, declared.{command.Delete.{Delete}, reply.Reply.{Reply, TheVariants.{Listed}}}, State.{Site, Item, State}, Steps.{addressed, content_path}, Table.{opening, after}, Runs.{Moves, Runs}, Licence.{Licence, AllMay, May, allows, looking_up}}
 use Rattle.cacache_calls.proofs.{Sound.{begins_sound, stays_sound}, Within.{calls_keep_to}}
-use Rattle.cacache_value.specs.{Kinds.{Content, Bucket, path_kind, is_used}, Value.{blob_in, bucket_in, Value, wide_value}, Acts.{Act, act_of, change, PutBytes, PutLink, Drop}, Placed.{Placed}}
-use Rattle.cacache_value.proofs.{KindsApart.{kind-below}, Traces.{steps_act, steps_keep_placed}}
-use Rattle.cacache_laws.proofs.trees.{Members.{Member, contains_member, member_contains}, Indexed.{lists_each_key}, Twins.{Agreeing.{read_same}, Twice.{address_is, get_moves, moved_same, over_done, leaf_done}}}
-use Rattle.cacache_laws.specs.{trees.{Answers.{AnsweredBy}, Index.{is_failure}, Walks.{is_leaf}, Idle.{Finds, IsNeeded, LacksIdle}, Collecting.{LinksLeadOut, IsLive, Removes, RemovalsLeave, CollectionsKeepReads, CollectionsKeepLookups}, Mending.{TombstonesKeepContents}}, Caches.{setup_at}, Sequence.{tree_on, AreAnswered}}
+use Rattle.cacache_laws.specs.{trees.{Verifying.{KeepsContents}, Collecting.{IsCollected, LinksLeadOut, IsLive, Removes}, Answers.{AnsweredBy}, Index.{is_failure}, Walks.{is_leaf}, Idle.{Finds, IsNeeded, LacksIdle}}, Caches.{setup_at}, Sequence.{tree_on, AreAnswered}}
+use Rattle.cacache_laws.proofs.trees.{Members.{Member, contains_member, member_contains}, Indexed.{lists_each_key}, Twins.Twice.{address_is, leaf_done}}
+use Rattle.cacache_core.specs.{declared.{errors.Fault.{Fault, TheVariants.{NotFound}}, integrity.digest.Hash.{Hash}}, Integrity.{IsHash, IsIntegrity}, Paths.{Names, names_of, home_of, joined, content_names, bucket_names_of}}
+use Rattle.cacache_core.proofs.{JoinedNames.{joined_texts_name}, ProperNames.{names_are_proper}, PathTexts.{paths_differ}}
+use Rattle.cacache_store.specs.{declared.store.{step.Step.TheVariants.{RemoveFile}, answer.Answer.TheVariants.{Done}}, Plain.{PlainStep}}
+use Rattle.cacache_disk.specs.{declared.luck.Luck.TheVariants.{Plain}, Tree.{Tree, look, cut, same_path, Rooted}, LedTo.{removable}, Apply.{apply, unless}}
+use Rattle.cacache_disk.proofs.{Maps.{same_path-true}, Roots.{same_self}, FoundNodes.{removable_ok}, PutNodes.{look-cut}}
+use Rattle.cacache_entry.specs.Bucket.{Found}
+use Rattle.cacache_value.specs.{Kinds.{Content, Bucket, path_kind}, Value.{blob_in, bucket_in, Value, wide_value}, Acts.{Act, act_of, change, PutBytes, PutLink, Drop}, Placed.{Placed}}
+use Rattle.cacache_value.proofs.{PathKinds.{kind-below}, Traces.{steps_act, steps_keep_placed}}
 use Rattle.cacache_loss.proofs.KeptPaths.{cond_none}
-use Rattle.cacache_history.{specs.Setup.{Setup, is_outside, may_export}, proofs.{Proper.{sound_proper}, StepActs.{MayAct, acts_so}}}
+use Rattle.cacache_history.{specs.Setup.{Setup, is_outside, may_export}, proofs.StepActs.{sound_proper, MayAct, acts_so}}
 use Rattle.cacache_store.specs.declared.store.answer.Answer.TheVariants as answers
 use Rattle.cacache_calls.specs.declared.command.Command.TheVariants as commands
 use Rattle.cacache_calls.specs.declared.carried.Aim.TheVariants as aims
@@ -93,7 +92,9 @@ module _ (cache : List ℕ) (home : Names) (is : home_of cache ≡ Some home) wh
 bucket_apart : (home : Names) (digest : List ℕ) → path_kind (Some home) (home ++ bucket_names_of digest) ≡ Content → ⊥
 bucket_apart home digest c = let wrong : Bucket ≡ Content = sym (kind-below home (bucket_names_of digest)) ∙ c in cc
 
-pub removals_leave : RemovalsLeave
+-- what removals leave
+pub removals_leave : (cache : List ℕ) (home : Names) (dropped : List Hash) (t new : Tree) → home_of cache ≡ Some home
+    → ((h : Hash) → Contains dropped h → IsHash h) → Removes cache dropped t new → IsCollected home dropped t new
 removals_leave cache home dropped t new is hashes r =
     let all = λ (g : Hash) (m : Member g dropped). hashes g (contains_member g dropped m) in
     record {
@@ -161,28 +162,6 @@ module _ (site : Site) (home : Names) (t new : Tree) (listing : Moves) (items : 
     formed = λ key found f. integrities found (listed key found f);
   }
 
-pub collections_keep_reads : CollectionsKeepReads
-collections_keep_reads site home t new listing items dropped key moves reply is rooted out ls at fine integrities apart r run answered = search (rules, get_moves, lacks_idle)
-
--- ---- lookups
-
-report_over : (t : Tree) (site : Site) (key : List ℕ) (u : PlainAnswer) (more : Moves) (reply : Reply) → Runs (after (looking (record { cache = site.cache; key = key; aim = aims.Report })) u) more reply → AnsweredBy t more
-report_over t site key u more reply run = grind (arith, over_done)
-
-bucket_kept : (site : Site) (home : Names) (t new : Tree) (dropped : List Hash) (key : List ℕ) → home_of site.cache ≡ Some home → LinksLeadOut home t → ((h : Hash) → Member h dropped → IsHash h) → Removes site.cache dropped t new → (apply new (ReadAll (bucket_path site.cache key)) Plain).0 ≡ (apply t (ReadAll (bucket_path site.cache key)) Plain).0
-unfolding bucket_path
-bucket_kept site home t new dropped key is out hashes r =
-    let same = agree site.cache home is dropped t new hashes r in
-    let named : names_of (joined site.cache (bucket_names key)) ≡ Ok (home ++ bucket_names key) = joined_texts_name site.cache (bucket_names key) (names_are_proper.buckets (sha1 key) (keys_have_digests key)) (omega arith) ∙ rw is refl in
-    read_same home t new same out (joined site.cache (bucket_names key)) (home ++ bucket_names key) named (inl (ap is_used (kind-below home (bucket_names key)))) (same (home ++ bucket_names key) (bucket_apart home (sha1 key)))
-
-pub collections_keep_lookups : CollectionsKeepLookups
-collections_keep_lookups site home t new dropped key [] reply is out hashes r run a = tt
-collections_keep_lookups site home t new dropped key (m ∷ more) reply is out hashes r run a =
-    let step : ReadAll (bucket_path site.cache key) ≡ m.0 = (let e : Some (ReadAll (bucket_path site.cache key)) ≡ Some m.0 = run.0 in cc) in
-    let all = λ (g : Hash) (k : Member g dropped). hashes g (contains_member g dropped k) in
-    (moved_same t new m (ReadAll (bucket_path site.cache key)) step a.0 (bucket_kept site home t new dropped key is out all r), report_over t site key m.1 more reply run.2)
-
 -- ---- acts
 
 -- what a tombstone's call may do: make folders and append
@@ -220,7 +199,10 @@ module _ (site : Site) where
         contents = λ h. rest.contents h ∙ ap (λ (v : Value). v.contents h) acts ∙ act_keeps (home_of site.cache) (wide_value (home_of site.cache) t) h (act_of m.0 Plain (apply t m.0 Plain).0) m.0 (acts_so m.0 Plain (apply t m.0 Plain).0) may.0;
       }
 
-pub tombstones_keep_contents : TombstonesKeepContents
+-- a call that adds a tombstone leaves the contents, whatever it answers
+pub tombstones_keep_contents : (site : Site) (home : Names) (d : Delete) (r : Reply) (moves : Moves) (t : Tree)
+    → home_of site.cache ≡ Some home → calls.FormedIfWritten (deletion site.cache d) → Runs (opening site (commands.Delete d)) moves r
+    → AreAnswered t moves → Placed (Some home) t → KeepsContents home t (tree_on t moves)
 tombstones_keep_contents site home d r moves t is formed run answered placed =
     let x = setup_at site.cache site.base in
     let sound = begins_sound site (may_export x) (is_outside x) (commands.Delete d) formed in

@@ -1,21 +1,33 @@
 -- In a cache where each thing lies in its place a listing of the index lists what lookups find.
 use Rattle.std.proofs.{Common.{arith, ◌≡◌, inl, inr, ℕ, Bool, true, false, cond, List, [], ◌∷◌, ◌++◌, Option, Some, Ok, Err, take, refl, sym, ap, subst, ◌∙◌}, lemmas.{Grind.{common_steps}, List.Elements.{All-nil, All-cons, All-head, All-tail, All-append, All-take}}}
 use Rattle.std.specs.Prelude.{All, Contains}
+use Rattle.cacache_disk.specs.{declared.{node.Node.{TheVariants.{Link, File}, Node}, luck.Luck.TheVariants.{Plain}}, Tree.{Tree, look, Rooted}, LedTo.{place, followed, leads, file_at}, Apply.{apply}, Replay.{tree_of}}
+use Rattle.cacache_disk.proofs.Standing.{way_clear}
+use Rattle.cacache_value.specs.{Kinds.{PathKind, Content, Elsewhere, IsFor, path_kind, NamesBelow}, Placed.{MayStand, Placed}, Acts.{list_of}, Shows.{ShowsBucket}, Value.{bucket_in, value_of_tree}}
+use Rattle.cacache_value.proofs.Shows.{trees_show}
+use Rattle.cacache_laws.specs.{trees.{Collecting.{CachesLinkOut, LinksLeadOut}, Compacted.{FindsFormed}, Answers.{AnsweredBy, AnswersOn}, Housed.{CachesAreHoused, Housed, IndexesLead}, Index.{IndexLists, entries_in}, Verifying.{found_in}}, Caches.{setup_at}, ReadAnswers.{entries_on}, Sequence.{turns_on}}
+use Rattle.cacache_laws.proofs.{Listings.ListedTurns.{Leads, turns_lead}, Readings.Looks.{moves_keep, moves_place}, Calls.Sequence.{turns_made}, trees.{Twins.Agreeing.{said}, Collected.{indexes_find}, Members.{Member, member_contains}, Stepping.{read_answer}}}
 use Rattle.sha1.specs.Sha1.{sha1}
-use Rattle.cacache_core.specs.{declared.errors.{Fault.TheVariants.{IsADirectory, NotFound}, Error.TheVariants.{OutOfMemory}}, Integrity.{IsIntegrity}, PathNames.{Names, names_of, home_of}, Paths.{bucket_names_of}}
+use Rattle.cacache_core.specs.{declared.errors.{Fault.TheVariants.{IsADirectory, NotFound}, Error.TheVariants.{OutOfMemory}}, Integrity.{IsIntegrity}, Paths.{Names, names_of, home_of, bucket_names_of}}
 use Rattle.cacache_store.specs.declared.store.answer.Answer.TheVariants as answers
 use Rattle.cacache_store.specs.{declared.store.step.Step.TheVariants.{ReadAll}, Plain.{PlainAnswer}}
-use Rattle.cacache_disk.specs.{declared.{luck.Luck.TheVariants.{Plain}, node.Node.{Node, TheVariants.{File}}}, Tree.{Tree, look}, LedTo.{place, followed, leads, file_at}, Apply.{apply}, Rooted.{Rooted}, memory.Replay.{tree_of}}
-use Rattle.cacache_disk.proofs.Standing.{way_clear}
-use Rattle.cacache_entry.specs.{Bucket.{entries_of}, Entry.{Entry}, Latest.{Found, latest}}
+use Rattle.cacache_entry.specs.{Bucket.{entries_of, Found, latest}, Entry.{Entry}}
 use Rattle.cacache_calls.specs.declared.command.Command.TheVariants as commands
-use Rattle.cacache_calls.specs.{declared.reply.Reply.{Reply, TheVariants.{Listed, LookedUp, Refused}}, Licence.{looking_on, AllMay}, ListReplies.{too_deep}, Replies.{bucket_shown, find_reply}, Runs.{Moves, Runs}, State.{State, Site, Item}, StepPaths.{bucket_path}, Table.{after, opening}, Walking.{most}}
+use Rattle.cacache_calls.specs.{declared.reply.Reply.{Reply, TheVariants.{Listed, LookedUp, Refused}}, Licence.{looking_on, AllMay}, Replies.{too_deep, bucket_shown, find_reply}, Runs.{Moves, Runs}, State.{State, Site, Item}, Steps.{bucket_path}, Table.{after, opening}, Walking.{most}}
 use Rattle.cacache_calls.proofs.{Replies.{finds_shown}, Within.{calls_keep_to}}
-use Rattle.cacache_value.{specs.{Acts.{list_of}, Kinds.{NamesBelow}, Placed.{Placed}, Shows.{ShowsBucket}, Value.{bucket_in, value_of_tree}}, proofs.Shows.{trees_show}}
-use Rattle.cacache_history.specs.{Buckets.{BucketsHaveKeys}, ListingTurns.{is_past, listing_of}, Setup.{Setup}, Turns.{made_in, EachTurn}}
-use Rattle.cacache_history.proofs.{Entries.{Bucketed.{KeyedTurn}, Formed.{TreeFormed}, Owned.{TreeOwn}, Spelled.{HasIntegrity, latest_has}}, Histories.{Holding.{TurnsHold}, ShownTurns.{bucket_below}}, Listings.ListingTurns.{lists}}
-use Rattle.cacache_laws.specs.{Caches.{setup_at}, ReadAnswers.{entries_on}, Sequence.{turns_on}, trees.{Answers.{AnsweredBy, AnswersOn}, Compacted.{HousesAreFit}, Housed.{CachesAreHoused, Housed, IndexesLead}, Index.{IndexLists, entries_in}, Mending.{found_in}}}
-use Rattle.cacache_laws.proofs.{Listings.ListedTurns.{Leads, turns_lead}, Readings.Looks.{moves_keep, moves_place}, Calls.Sequence.{turns_made}, trees.{Twins.Agreeing.{said}, Collected.{indexes_find}, Links.{links_out}, Members.{Member, member_contains}, Within.{read_answer}}}
+use Rattle.cacache_history.specs.{AddedEntries.{BucketsHaveKeys}, ListingTurns.{is_past, listing_of}, Setup.{Setup}, Turns.{made_in, EachTurn}}
+use Rattle.cacache_history.proofs.{Entries.{Bucketed.{KeyedTurn}, Spelled.{TreeFormed, HasIntegrity, latest_has}, Owned.{TreeOwn}}, Histories.{Holding.{TurnsHold}, ShownTurns.{bucket_below}}, Listings.ListingTurns.{lists}}
+
+link_out : (home : Names) (target : List ℕ) (k : PathKind) → MayStand (Some home) (Some (Link target)) k → IsFor (Some home) Elsewhere target
+link_out home target Content may = may
+link_out home target Elsewhere may = may
+link_out home target other may = absurd may
+
+pub links_out : (home : Names) (t : Tree) → Placed (Some home) t → LinksLeadOut home t
+links_out home t placed names target is = link_out home target (path_kind (Some home) names) (subst (λ o. MayStand (Some home) o (path_kind (Some home) names)) is (placed names))
+
+pub caches_link_out : CachesLinkOut
+caches_link_out cache home log is cached = links_out home (tree_of log) (subst (λ h. Placed h (tree_of log)) is cached.placed)
 
 pub caches_are_housed : CachesAreHoused
 caches_are_housed cache home log is cached =
@@ -132,7 +144,9 @@ module _ (site : Site) (home : Names) (t : Tree) (is : home_of site.cache ≡ So
 pub found_integrity : (home : Names) (t : Tree) (key : List ℕ) (found : Found) → Housed (Some home) t → found_in home t key ≡ Some found → IsIntegrity found.integrity
 found_integrity home t key found housed e = subst HasIntegrity e (latest_has key (entries_on (Some home) t key) (housed.formed (sha1 key)))
 
-pub houses_are_fit : HousesAreFit
+-- links lead out, and found entries have integrities, if each thing lies in its place
+pub houses_are_fit : (cache : List ℕ) (home : Names) (t : Tree) → home_of cache ≡ Some home → Rooted t → Housed (Some home) t
+    → LinksLeadOut home t × FindsFormed cache t
 houses_are_fit cache home t is rooted housed = (
   links_out home t housed.placed,
   λ key found f.

@@ -4,7 +4,7 @@ use Rattle.std.proofs.{Common.{arith, rules, ◌≡◌, ◌⊎◌, inl, inr, ℕ
 use Rattle.std.specs.{List.{AllByRecursion, Sorted.{IsStrictlySortedBy}}, declared.cmp.Ordering.{Ordering, TheVariants.{Less, Greater}}, Ordering.{ordering_reverse}, Cmp.{IsTotalOrder, nat_cmp_total, on_total, then_total, Lexicographic.{nat_list_cmp_total}}}
 use Rattle.cacache_core.specs.{declared.{errors.{Fault.{Fault, TheVariants.{NotFound, TooDeep}}, Error.TheVariants.{OutOfMemory}}, integrity.digest.Hash.{Hash}}, Paths.{join}, Integrity.{rank}}
 use Rattle.cacache_store.specs.{declared.store.{answer.{Kind.{Kind}, Name.{Name}}, step.Step.TheVariants.{ReadDir, ReadAll}}, Plain.{PlainStep, PlainAnswer}}
-use Rattle.cacache_calls.specs.{declared.{answers.Refusal.{Refusal}, reply.Reply.{Reply, TheVariants.{Listed, Refused}}, visit.{Visit.{Visit, TheVariants.{Enter, ReadBucket, RemoveFile, RemoveFolder}}, Task.{Task, TheVariants.{Make, Stumble}}}}, Answers.{bytes_in, names_in}, State.{walking, over, Item, Walk}, Common.{go_on}, Walking.{most, failed, miss, walk_on, task_for_name, tasks_of, too_many, entered, unread_bucket, listed, items_in}, Runs.{Moves, Runs}, ListReplies.{by_bucket, by_folder, given_by, items_given}}
+use Rattle.cacache_calls.specs.{declared.{answers.Refusal.{Refusal}, reply.Reply.{Reply, TheVariants.{Listed, Refused}}, visit.{Visit.{Visit, TheVariants.{Enter, ReadBucket, RemoveFile, RemoveFolder}}, Task.{Task, TheVariants.{Make, Stumble}}}}, Answers.{bytes_in, names_in}, State.{walking, over, Item, Walk}, Common.{go_on}, Walking.{most, failed, miss, walk_on, task_for_name, tasks_of, too_many, entered, unread_bucket, listed, items_in}, Runs.{Moves, Runs}, Replies.{by_bucket, by_folder, given_by, items_given}}
 use Rattle.cacache_walks.specs.{Reading.{names_shown}, Listing.{hash_cmp}}
 use Rattle.cacache_laws.proofs.trees.{Members.{Member, in_left, in_right, in_either, contains_member, member_contains}, Looks.{answers_agree}}
 use Rattle.cacache_laws.specs.trees.{Index.{is_failure, IndexesAgree, entries_in}, Answers.{IsMemory}, Contents.{HoldingsAgree}}

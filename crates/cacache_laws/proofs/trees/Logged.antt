@@ -3,7 +3,7 @@ use Rattle.std.proofs.{Common.{arith, ◌≡◌, inl, inr, List, [], ◌∷◌, 
 use Rattle.std.specs.Prelude.{Contains, option_map}
 use Rattle.cacache_core.specs.declared.errors.Fault.{Fault}
 use Rattle.cacache_store.specs.declared.store.{log.LogItem.{LogItem, TheVariants.{Made, Foreign, ForeignFolder}}, step.Step.TheVariants.{MakeDirs}}
-use Rattle.cacache_disk.specs.{declared.luck.Luck.TheVariants.{Plain}, Tree.{Tree, bare}, Apply.{apply, planted}, Rooted.{Rooted}, memory.Replay.{changed, after, replay, tree_of}}
+use Rattle.cacache_disk.specs.{declared.luck.Luck.TheVariants.{Plain}, Tree.{Tree, bare, Rooted}, Apply.{apply, planted}, Replay.{changed, after, replay, tree_of}}
 use Rattle.cacache_disk.proofs.{KeptFolders.{steps_keep_rooted}, PlantedNodes.{planted_rooted}, Roots.{bare_rooted}}
 use Rattle.cacache_calls.specs.{declared.{command.Command.{Command}, reply.Reply.{Reply}}, State.{Site}, Table.{opening}, Runs.{Moves, Runs, Gains}, Licence.{looking_on}}
 use Rattle.cacache_calls.proofs.Within.{calls_keep_to}

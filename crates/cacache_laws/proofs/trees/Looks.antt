@@ -1,7 +1,7 @@
 -- Calls that only look answer on the tree of the log, and one tree gives one answer.
 use Rattle.std.proofs.Common.{◌≡◌, ◌⊎◌, inl, inr, [], ◌∷◌, Some, None, sym, ap, subst, ◌∙◌}
 use Rattle.cacache_store.specs.Plain.{PlainStep, PlainAnswer}
-use Rattle.cacache_disk.specs.{declared.luck.Luck.TheVariants.{Plain}, Tree.{Tree}, Apply.{apply}, memory.Replay.{tree_of}}
+use Rattle.cacache_disk.specs.{declared.luck.Luck.TheVariants.{Plain}, Tree.{Tree}, Apply.{apply}, Replay.{tree_of}}
 use Rattle.cacache_calls.specs.{declared.reply.Reply.{Reply}, State.{State, Site, over}, Table.{after, opening, wants}, Runs.{Moves, Runs}}
 use Rattle.cacache_laws.{proofs.{Calls.InParts.{logs_lead}, trees.Logged.{looked}}, specs.trees.Answers.{AnsweredBy, AnswersAgree, IsMemory, LooksAnswer}}
 

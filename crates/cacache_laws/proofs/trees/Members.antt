@@ -1,7 +1,7 @@
 -- Members of lists, by recursion.
 use Rattle.std.proofs.Common.{◌≡◌, ◌⊎◌, inl, inr, ◌<◌, ℕ, zero, suc, List, [], ◌∷◌, ◌++◌, Option, None, Some, refl, sym, ap, subst, ◌∙◌, length, get_or, arith}
 use Rattle.std.specs.{Prelude.{Contains, filter_map}, List.{cons_option}}
-pub use Rattle.cacache_calls.specs.ListReplies.{In as Member}
+pub use Rattle.cacache_calls.specs.Replies.{In as Member}
 use Rattle.cacache_history.proofs.Each.{any_left, any_right}
 
 pub contains_member : {X : Type 0} (x : X) (xs : List X) → Member x xs → Contains xs x

@@ -1,15 +1,15 @@
 -- A sweep takes the temporary files out of a tree, and nothing else.
 use Rattle.std.proofs.{lemmas.{Grind.{common_steps}, Bool.{and_parts, eqb-true, false_from_ne_true}, List.{length-map, nil_from_length, Elements.{All-cons, All-nil}}, Slice.Eq.{bytes_eq-Decides}}, Common.{rules, ◌≡◌, ◌==◌, if◌then◌else◌, inl, inr, ℕ, Bool, true, false, cond, Option, List, [], ◌∷◌, ◌++◌, None, Some, Ok, map, filter, length, refl, sym, ap, subst, ◌∙◌, append_assoc, arith}}
 use Rattle.std.specs.Prelude.{bytes_eq, codes}
-use Rattle.cacache_core.specs.{PathNames.{Names, names_of, home_of, is_bad, is_name, pieces, IsProperName}, Paths.{join, temp_area, content_names, bucket_names_of}}
+use Rattle.cacache_core.specs.Paths.{Names, names_of, home_of, is_bad, is_name, pieces, IsProperName, join, temp_area, content_names, bucket_names_of}
 use Rattle.cacache_core.proofs.{JoinedNames.{joined_texts_name}, ProperNames.{proper_temp_folder}}
 use Rattle.cacache_store.specs.declared.store.{answer.{Kind.{Kind}, Name.{Name}, Answer.TheVariants.{Done}}, step.Step.TheVariants.{ReadDir, RemoveFile, Size}}
 use Rattle.cacache_store.specs.declared.store.answer.Kind.TheVariants as kinds
-use Rattle.cacache_disk.specs.{declared.{luck.Luck.TheVariants.{Plain}, node.Node.{Node, TheVariants.{Folder, File, Link}}}, Tree.{Tree, look, cut, kind_of, listing, same_path}, Apply.{apply}, Rooted.{Rooted}}
+use Rattle.cacache_disk.specs.{declared.{luck.Luck.TheVariants.{Plain}, node.Node.{Node, TheVariants.{Folder, File, Link}}}, Tree.{Tree, look, cut, kind_of, listing, same_path, Rooted}, Apply.{apply}}
 use Rattle.cacache_disk.proofs.{Maps.{same_path-true}, PutNodes.{look-cut}, Roots.{same_self}}
-use Rattle.cacache_laws.specs.{Sequence.{tree_on, AreAnswered}, trees.Temporary.{IsTemporary, LeavesUntemporary, SweepsLeave, area_of, cache_folder, is_file, is_temp_name, is_temporary, sized_removals, temp_area_in, temp_at}}
+use Rattle.cacache_laws.specs.{Sequence.{tree_on, AreAnswered}, trees.Temporary.{IsTemporary, LeavesUntemporary, area_of, cache_folder, is_file, is_temp_name, is_temporary, sized_removals, temp_area_in, temp_at}}
 use Rattle.cacache_laws.proofs.{Readings.ReadAnswers.{sizing_keeps}, trees.{Children.{FolderShows, NoFolder, Stands, child_listed, folder_shown, listed, listed_child, missing, none_below, proper_child}, Keeping.{removed}, Collected.{from_kept, kept_in}, Covering.{named_on}, Members.{Member}}}
-use Rattle.cacache_value.{specs.{Kinds.{PathKind, Content, Bucket, Temporary, path_kind}, Value.{blob_in, bucket_in}}, proofs.KindsApart.{kind-below}}
+use Rattle.cacache_value.{specs.{Kinds.{PathKind, Content, Bucket, Temporary, path_kind}, Value.{blob_in, bucket_in}}, proofs.PathKinds.{kind-below}}
 use Rattle.cacache_walks.specs.Reading.{names_shown}
 
 -- ---- names in a folder
@@ -201,5 +201,9 @@ module _ (cache : List ℕ) (home : Names) (is : home_of cache ≡ Some home) (t
     buckets = λ digest d. ap bucket_in (other (bucket_names_of digest) Bucket (kind-below home (bucket_names_of digest)) (λ e. cc));
   }
 
-pub sweeps_leave : SweepsLeave
+-- what is left once those names in the folder of temporary files that show one were removed
+pub sweeps_leave : (cache : List ℕ) (home : Names) (t : Tree) (names : List Name) (removed : List (Name × ℕ)) → home_of cache ≡ Some home
+    → Rooted t → names ≡ listing t (home ++ temp_area ∷ []) → map (λ r. r.0) removed ≡ filter is_temporary names
+    → AreAnswered t (sized_removals (temp_area_in cache) removed)
+    → LeavesUntemporary home t (tree_on t (sized_removals (temp_area_in cache) removed)) (length removed)
 sweeps_leave cache home t names rs is rooted all each answered = leaves_untemporary cache home is t rooted names rs all each answered

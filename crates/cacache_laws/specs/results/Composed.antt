@@ -1,12 +1,48 @@
--- What calls that are made of others gave their caller and left, by their results, on a store in memory.
-use Rattle.std.specs.{Prelude.{◌≡◌, ◌⊎◌, ◌<◌, ◌^◌, ℕ, Bool, true, false, List, [], Option, Some, Vec, Result, Ok, Err, IfOk, IfErr, MatchResult, length}, Global.{Global}}
-use Rattle.cacache_core.specs.{declared.{errors.{Error.{Error, TheVariants.{IoError, OutOfMemory}}, Fault.{Fault, TheVariants.{NotFound}}}, integrity.{algorithm.Algorithm.TheVariants.{Sha256}, digest.Hash.{Hash}}}, Integrity.{integrity_under}}
-use Rattle.cacache_store.specs.declared.{env.Env.{Env}, store.log.LogItem.{LogItem}}
-use Rattle.cacache_disk.specs.{LedTo.{free}, memory.Replay.{tree_of}}
+-- What calls left after one another, and what calls that are made of others gave their caller and left.
+use Rattle.std.specs.{Prelude.{ℕ, List, Option, ◌≡◌, ◌⊎◌, ◌<◌, ◌^◌, Bool, true, false, [], Some, Vec, Result, Ok, Err, IfOk, IfErr, MatchResult, length}, Global.{Global}}
+use Rattle.cacache_core.specs.{declared.{errors.{Error.{Error, TheVariants.{IoError, OutOfMemory}}, Fault.{Fault, TheVariants.{NotFound}}}, integrity.{digest.Hash.{Hash}, algorithm.Algorithm.TheVariants.{Sha256}}}, Integrity.{integrity_under}}
+use Rattle.cacache_store.specs.declared.{store.log.LogItem.{LogItem}, env.Env.{Env}}
+use Rattle.cacache_laws.specs.{Caches.{Grows, IsExcused, HasContent, HasKey, IsCache, LacksKey}, Beside.{KeepsOthers, found_under}, OpenWriters.{LeavesKnownCache}, results.{Writes.{KeepsUntouched, DontClash}, Exports.{RefusesSource}, Reads.{AskedContent, ContentRead, EntryFound, KeyLiesWhole, KeyRead}, Success.{FailsFor, FailsForMemory}}, ExportEffects.{IsApart, NamesBytes, Arrives}, OpenSucceeds.{MayTake}, Succeeds.{NamesFolder}}
+use Rattle.cacache_disk.specs.{LedTo.{free}, Replay.{tree_of}}
 use Rattle.cacache_calls.specs.declared.command.{How.TheVariants.{HardLink}, Source.{Source}}
-use Rattle.cacache_sync.specs.{declared.{layers.Layered.{Layered}, ways.{Exported.{Exported}, ExportMode.{ExportMode}}}, GetOrPut.{GetsOrPuts}, Layers.{AsksHash, AsksLayers, FindsKey, ReadsHash, ReadsKey, finds_none, lacks_content, lacks_entry, says_no}, Ways.{ExportsTo, export_reply}}
+use Rattle.cacache_sync.specs.{declared.{layers.Layered.{Layered}, ways.{Exported.{Exported}, ExportMode.{ExportMode}}}, Layers.{GetsOrPuts, AsksHash, AsksLayers, FindsKey, ReadsHash, ReadsKey, finds_none, lacks_content, lacks_entry, says_no}, Exports.{ExportsTo, export_reply}}
 use Rattle.cacache_history.specs.History.{NamesSource}
-use Rattle.cacache_laws.specs.{Caches.{Grows, HasContent, HasKey, IsCache, IsExcused, LacksKey}, ExportEffects.{IsApart, NamesBytes}, Exported.{Arrives}, Keeping.{found_under}, OpenSucceeds.{MayTake}, OpenWriters.{LeavesKnownCache}, Succeeds.{NamesFolder}, results.{Exports.{RefusesSource}, Reads.{AskedContent, ContentRead, EntryFound, KeyLiesWhole, KeyRead}, Success.{FailsFor, FailsForMemory}, Writes.{DontClash}}}
+
+-- what was known twice is known
+abbrev pub LeavingsJoin : Type 0
+LeavingsJoin =
+    (cache : List ℕ) (old mid new : List LogItem)
+    → LeavesKnownCache cache old mid → LeavesKnownCache cache mid new
+    → LeavesKnownCache cache old new
+
+-- what stayed twice stayed
+abbrev pub UntouchedJoin : Type 0
+UntouchedJoin =
+    (cache : List ℕ) (written : Option (List ℕ)) (own : List Hash) (added : List ℕ)
+    (old mid new : List LogItem)
+    → KeepsUntouched cache written own added old mid
+    → KeepsUntouched cache written own added mid new
+    → KeepsUntouched cache written own added old new
+
+-- what stayed of the other keys, and then is known, stayed
+abbrev pub OthersStay : Type 0
+OthersStay =
+    (cache except : List ℕ) (old mid new : List LogItem)
+    → KeepsOthers cache except old mid → LeavesKnownCache cache mid new
+    → KeepsOthers cache except old new
+
+-- what is known stayed untouched
+abbrev pub KnownStays : Type 0
+KnownStays =
+    (cache : List ℕ) (written : Option (List ℕ)) (own : List Hash) (added : List ℕ)
+    (old new : List LogItem) → LeavesKnownCache cache old new
+    → KeepsUntouched cache written own added old new
+
+-- what excuses an error in the earlier part of a log excuses it in the whole
+abbrev pub ExcusesStay : Type 0
+ExcusesStay =
+    (e : Error) (old mid new : List LogItem)
+    → IsExcused e old mid → Grows mid new → IsExcused e old new
 
 -- ---- exports by the first way that is open
 

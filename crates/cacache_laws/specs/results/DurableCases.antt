@@ -1,6 +1,6 @@
 -- Histories of one durable commit: the laws of losses speak of some history.
 use Rattle.std.specs.Prelude.{◌≡◌, ◌++◌, ℕ, List, Ok, None, Some, true}
-use Rattle.cacache_core.specs.{PathNames.{Names, names_of}, Paths.{bucket_names, content_names}}
+use Rattle.cacache_core.specs.Paths.{Names, names_of, bucket_names, content_names}
 use Rattle.cacache_entry.specs.{Entry.{Entry}, FittingEntries.{IsEntry, IsWritable}}
 use Rattle.cacache_calls.specs.{declared.command.{Insert.{Insert}, Put.{Put}}, Inserting.{insertion}, Storing.{insertion_of, put_commit}}
 use Rattle.cacache_history.specs.{AddedEntries.{address_of_put}, declared.record.Record.{Record}, History.{History, IsLegal, now_at}, Setup.{home}, Values.{steps_of}, durable.{Behind.{NoneAppends}, Outlasting.{DurableInsert, DurablePut}, QuietMoves.{AreQuiet}}}

@@ -1,8 +1,8 @@
 -- What exports gave their caller and left, by their results, on a store in memory.
 use Rattle.std.specs.Prelude.{◌≡◌, ◌⊎◌, ℕ, Bool, true, List, [], None, Some, Result, Ok, Err, IfOk, IfErr, MatchResult, length}
-use Rattle.cacache_core.specs.{declared.{errors.{Error.{Error, TheVariants.{EntryNotFound, IoError, IntegrityError, OutOfMemory}}, Fault.{Fault, TheVariants.{NotFound, IsADirectory, InvalidInput}}, IntegrityFault.{IntegrityFault}}, integrity.digest.Hash.{Hash}}, Integrity.{Meets}, PathNames.{Names}}
+use Rattle.cacache_core.specs.{declared.{errors.{Error.{Error, TheVariants.{EntryNotFound, IoError, IntegrityError, OutOfMemory}}, Fault.{Fault, TheVariants.{NotFound, IsADirectory, InvalidInput}}, IntegrityFault.{IntegrityFault}}, integrity.digest.Hash.{Hash}}, Integrity.{Meets}, Paths.{Names}}
 use Rattle.cacache_store.specs.declared.{env.Env.{Env}, store.log.LogItem.{LogItem}}
-use Rattle.cacache_disk.specs.{LedTo.{free, writable}, Tree.{Tree}, memory.Replay.{shown, tree_of}}
+use Rattle.cacache_disk.specs.{LedTo.{free, writable}, Tree.{Tree}, Replay.{shown, tree_of}}
 use Rattle.cacache_calls.specs.{declared.{command.{How.{How, TheVariants.{Copy, HardLink, Reflink}}, Source.{Source, TheVariants.{Hash as OfHash, Key as OfKey}}}, reply.Reply.TheVariants.{Copied}}, Replies.{done}, Runs.{reply_of, without_message}}
 use Rattle.cacache_jobs.specs.Environment.{Calls}
 use Rattle.cacache_sync.specs.Exports.{exporting}

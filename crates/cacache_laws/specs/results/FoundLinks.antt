@@ -1,11 +1,14 @@
--- What losses of power leave of a durable put that found a link at its content's address.
-use Rattle.std.specs.Prelude.{◌≡◌, ℕ, List, [], ◌∷◌, ◌++◌, Some, true, Ok}
-use Rattle.cacache_core.specs.{declared.integrity.digest.Hash.{Hash}, PathNames.{Names, names_of}}
-use Rattle.cacache_disk.specs.{declared.node.Node.TheVariants.{File}, Tree.{Tree, look}}
+-- What losses of power leave of a durable put whose content may be a link.
+use Rattle.std.specs.Prelude.{◌≡◌, ℕ, List, [], ◌∷◌, ◌++◌, Some, true, Ok, None}
+use Rattle.cacache_core.specs.{declared.integrity.digest.Hash.{Hash}, Paths.{Names, names_of}, Integrity.{digest, IsIntegrity}}
+use Rattle.cacache_disk.specs.{declared.node.Node.TheVariants.{File}, Tree.{Tree, look}, Replay.{tree_of}}
 use Rattle.cacache_calls.specs.{declared.command.Put.{Put}, Licence.{KeepsTo, Licence, taking_in}}
 use Rattle.cacache_value.specs.{Shows.{blob_bytes}, Value.{AtLink, value_of_tree}}
 use Rattle.cacache_loss.specs.{Loss.{Loss}, LossLaws.{HasDigest}, LostValues.{LeftOf}, Moments.{EachMove}, Syncs.{Leaves}}
-use Rattle.cacache_history.specs.{declared.record.Record.{Record, TheVariants.{Began, Moved, Stopped}}, AddedEntries.{address_of_put}, History.{History, IsLegal, initial}, Setup.{home}, Values.{steps_of, value_at}, durable.{FewCalls.{FewCalls}, Outlasting.{AnsweredPut, EntriesHaveBehind, PutsOrLinksOutlast, moment_at}}}
+use Rattle.cacache_history.specs.{declared.record.Record.{Record, TheVariants.{Began, Moved, Stopped}}, AddedEntries.{address_of_put}, History.{History, IsLegal, initial}, Setup.{home}, Values.{steps_of, value_at}, durable.{QuietMoves.{FewCalls}, Outlasting.{AnsweredPut, EntriesHaveBehind, PutsOrLinksOutlast, moment_at}}}
+use Rattle.cacache_store.specs.declared.store.log.LogItem.{LogItem}
+use Rattle.cacache_entry.specs.{Entry.{Entry}, Bucket.{NoneAnswers}}
+use Rattle.cacache_laws.specs.{Inserts.{leads_to}, results.{Losses.{IsLast, IsLeft, StandsBefore}, Reads.{LiesWhole}}, Beside.{own_integrity}}
 
 -- ---- what is left
 
@@ -79,3 +82,41 @@ pub record LinksOutlast (h : History) : Type 0 where
 -- so it is for every legal history
 abbrev pub HistoriesKeepLinks : Type 0
 HistoriesKeepLinks = (h : History) → IsLegal h → LinksOutlast h
+
+-- ---- what is left
+
+-- the key leads to bytes that have the digest of the put's, which lie there or where a link leads
+pub record LeadsThrough (cache key : List ℕ) (p : Put) (log : List LogItem) : Type 0 where
+  pub bytes : List ℕ
+  pub same : digest p.options.algorithm bytes ≡ digest p.options.algorithm p.data
+  pub leads : leads_to cache key log ≡ Some (own_integrity p)
+  pub formed : IsIntegrity (own_integrity p)
+  pub lies : LiesWhole cache (own_integrity p) log bytes
+
+-- the put's entry is there; if none after it answers to the key, the key leads to such bytes in each
+-- store with this tree
+abbrev pub LinkIsLeft : List ℕ → List ℕ → Put → Tree → Type 0
+LinkIsLeft cache key p t =
+    (more : List Entry) × StandsBefore cache key p more t
+    × (NoneAnswers key more → (log : List LogItem) → tree_of log ≡ t → LeadsThrough cache key p log)
+
+-- ---- laws
+
+-- if a durable put answered, and no integrity was expected, what it stored is left; if a link was
+-- at its address, one to a file that no step of the history changed
+abbrev pub LossesLeaveLinks : Type 0
+LossesLeaveLinks =
+    (h : History) (loss : Loss) (folder : Names) (key : List ℕ) (p : Put) (t : Tree)
+    → LinksOutlast h → FewCalls h → IsLeft h loss t → home h.setup ≡ Some folder
+    → (put : AnsweredPut h folder p) → p.key ≡ Some key → p.options.integrity ≡ None
+    → LeadsUnchanged h put.before (address_of_put p) → LinkIsLeft h.setup.cache key p t
+
+-- and if its entry is the last of its bucket, the key leads to its bytes in each such store
+abbrev pub LossesLeaveLastLinks : Type 0
+LossesLeaveLastLinks =
+    (h : History) (loss : Loss) (folder : Names) (key : List ℕ) (p : Put) (t : Tree)
+    → LinksOutlast h → FewCalls h → IsLeft h loss t → home h.setup ≡ Some folder
+    → (put : AnsweredPut h folder p) → p.key ≡ Some key → p.options.integrity ≡ None
+    → LeadsUnchanged h put.before (address_of_put p)
+    → IsLast h folder put.rest put.call.caller key p
+    → (log : List LogItem) → tree_of log ≡ t → LeadsThrough h.setup.cache key p log

@@ -1,13 +1,13 @@
 -- What open writers did, by their results, on a store in memory.
 use Rattle.std.specs.{Prelude.{◌≡◌, ◌⊎◌, ◌<◌, ◌^◌, ◌++◌, ℕ, List, [], Option, None, Some, Result, IfOk, IfErr, IfSome, OnOk, IsUtf8, length}, Io.KnownBytes.{Appends}}
 use Rattle.serde_json.specs.Data.{null}
-use Rattle.cacache_core.specs.{declared.{errors.{Error.{Error, TheVariants.{SizeMismatch, SerdeError, IntegrityError, OutOfMemory}}, IntegrityFault.TheVariants.{Check}}, integrity.digest.Hash.{Hash}}, Digests.{digest}, Hashers.{algorithm_of}, Integrity.{HasDigest, IsIntegrity, integrity_under}}
+use Rattle.cacache_core.specs.{declared.{errors.{Error.{Error, TheVariants.{SizeMismatch, SerdeError, IntegrityError, OutOfMemory}}, IntegrityFault.TheVariants.{Check}}, integrity.digest.Hash.{Hash}}, Integrity.{digest, HasDigest, IsIntegrity, integrity_under}, Hashers.{algorithm_of}}
 use Rattle.cacache_store.specs.declared.{env.Env.{Env}, store.{log.LogItem.{LogItem}, plain.PlainTemp.{PlainTemp}}}
-use Rattle.cacache_entry.specs.{FittingEntries.{AreBytes, IsJson}, Latest.{Found}}
-use Rattle.cacache_calls.specs.{declared.reply.Reply.TheVariants.{Stored}, Promises.{answered}, Runs.{reply_of}, StepPaths.{temp_path}}
+use Rattle.cacache_entry.specs.{FittingEntries.{AreBytes, IsJson}, Bucket.{Found}}
+use Rattle.cacache_calls.specs.{declared.reply.Reply.TheVariants.{Stored}, Promises.{answered}, Runs.{reply_of}, Steps.{temp_path}}
 use Rattle.cacache_history.specs.Values.{IsThere}
-use Rattle.cacache_sync.specs.{content.OpenWrites.{HasTaken, IsSameWriter, RemovesTemp, Takes, TriesToRemove}, declared.put.writer.SyncWriter.{SyncWriter}, put.{KeyedWriters.{CommitsWriter, OpensKeyed}, Options.{Said, options_of}}}
-use Rattle.cacache_laws.specs.{Caches.{IsCache, HasContent, IsExcused, Grows, lies_under}, Keeping.{found_under}, OpenWriters.{IsOpened, LeavesKnownCache}, OpenSucceeds.{FileAt}, Succeeds.{NamesFolder, IsReady}, results.{Success.{FailsForMemory}, Writes.{KeepsUntouched, SaysPlain}}}
+use Rattle.cacache_sync.specs.{content.OpenWrites.{HasTaken, IsSameWriter, RemovesTemp, Takes, TriesToRemove}, declared.put.writer.SyncWriter.{SyncWriter}, put.KeyedWriters.{CommitsWriter, OpensKeyed, Said, options_of}}
+use Rattle.cacache_laws.specs.{Caches.{IsCache, HasContent, IsExcused, Grows, lies_under}, Beside.{found_under}, OpenWriters.{IsOpened, LeavesKnownCache}, OpenSucceeds.{FileAt}, Succeeds.{NamesFolder, IsReady}, results.{Success.{FailsForMemory}, Writes.{KeepsUntouched, SaysPlain}}}
 
 -- a writer of a store in memory
 abbrev pub MemWriter : Type 0
@@ -109,7 +109,8 @@ LiesOrStayed cache own bytes old new =
     × (lies_under cache own new ≡ lies_under cache own old))
 
 -- a commit: the key leads to an entry of what was said, the bytes are as expected and lie there, and what
--- wasn't written stays. Whatever it answers, the key leads where it led, or to that entry
+-- wasn't written stays. Whatever it answers, the key leads where it led, or to that entry. If nothing
+-- but a time was said, an error is excused
 pub record CommittedBytes (cache : List ℕ) (key : Option (List ℕ)) (s : Said) (bytes : List ℕ)
     (r : Result (List Hash) Error) (old new : List LogItem) : Type 0 where
   pub sound : IsCache cache new
@@ -122,6 +123,8 @@ pub record CommittedBytes (cache : List ℕ) (key : Option (List ℕ)) (s : Said
       (answered (said_integrity s bytes) s.integrity key) (length bytes) old new
   pub content : IfOk r (λ i. LiesOrStayed cache (said_integrity s bytes) bytes old new)
   pub keeps : KeepsUntouched cache key (said_integrity s bytes) bytes old new
+  pub fails : (k : List ℕ) → key ≡ Some k → SaysPlain s → s.integrity ≡ None
+      → IfErr r (λ e. IsExcused e old new)
 
 -- ---- laws, of the environment that a call left
 

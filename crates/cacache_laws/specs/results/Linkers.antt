@@ -1,12 +1,12 @@
 -- What open linkers did, by their results, on a store in memory.
 use Rattle.std.specs.{Prelude.{◌≡◌, ◌<◌, ◌^◌, ◌++◌, ℕ, List, [], Option, None, Some, Result, Err, IfOk, IfErr, length}, Io.{ReadsAtMost, KnownBytes.{ReadConsumes}}}
-use Rattle.cacache_store.specs.Failures as io
+use Rattle.cacache_store.specs.Outside as io
 use Rattle.cacache_core.specs.declared.{errors.{Error.{Error, TheVariants.{IoError}}, Fault.{Fault}}, integrity.digest.Hash.{Hash}}
-use Rattle.cacache_store.specs.{declared.{env.Env.{Env}, store.{log.LogItem.{LogItem}, plain.PlainFile.{PlainFile}}}, Handles.{LeftFalls}}
-use Rattle.cacache_disk.specs.{Apply.{opened}, memory.Replay.{shown, tree_of}}
+use Rattle.cacache_store.specs.{declared.{env.Env.{Env}, store.{log.LogItem.{LogItem}, plain.PlainFile.{PlainFile}}}, Plain.{LeftFalls}}
+use Rattle.cacache_disk.specs.{Apply.{opened}, Replay.{shown, tree_of}}
 use Rattle.cacache_calls.specs.{declared.reply.Reply.TheVariants.{Stored}, Linking.{based, linked_to}, Promises.{answered}, Runs.{reply_of}}
-use Rattle.cacache_sync.specs.{content.Passed.{passed}, declared.put.linker.SyncToLinker.{SyncToLinker}, put.{OpenLinkers.{BeginsLink, CommitsLink, HasHashed, OpensLink, OpensWithSize, asks_file, asks_size, linked_by}, Options.{Said, options_of}}}
-use Rattle.cacache_laws.specs.{Caches.{IsCache, IsExcused, Grows}, ExportEffects.{IsApart}, LinkAnswers.{target_bytes}, Links.{KeepsBesideLink}, OpenLinkers.{SuitsSize, TargetOpened}, OpenWriters.{LeavesKnownCache}, Succeeds.{NamesFolder}, results.{Handles.{IsText, LeadsToEntry, SaysFit, said_integrity}, Links.{LeadsOn, LiesLinked}, Success.{FailsFor, FailsForMemory}, Writes.{SaysPlain}}}
+use Rattle.cacache_sync.specs.{content.OpenReads.{passed}, declared.put.linker.SyncToLinker.{SyncToLinker}, put.{OpenLinkers.{BeginsLink, CommitsLink, HasHashed, OpensLink, OpensWithSize, asks_file, asks_size, linked_by}, KeyedWriters.{Said, options_of}}}
+use Rattle.cacache_laws.specs.{Caches.{IsCache, IsExcused, Grows}, ExportEffects.{IsApart}, LinkAnswers.{target_bytes}, Links.{KeepsBesideLink}, OpenLinkers.{SuitsSize, TargetOpened}, OpenWriters.{LeavesKnownCache}, Succeeds.{NamesFolder}, results.{Handles.{IsText, LeadsToEntry, MayLeadToEntry, SaysFit, said_integrity}, Links.{LeadsOn, LiesLinked}, Success.{FailsFor, FailsForMemory}, Writes.{SaysPlain}}}
 
 -- a linker of a store in memory
 abbrev pub MemLinker : Type 0
@@ -49,8 +49,9 @@ pub record OpenedLinker (cache : List ℕ) (key : Option (List ℕ)) (path : Lis
 -- ---- a commit
 
 -- the key leads to an entry of what was said, the link lies under the integrity of the target's bytes,
--- unless something lay there, and all else stays. If nothing else was said, an error is excused; and if
--- the cache's path names a folder, only memory fails it, unless a link that leads nowhere lay there
+-- unless something lay there, and all else stays. Whatever it answers, the key leads where it led, or to
+-- that entry. If nothing else was said, an error is excused; and if the cache's path names a folder, only
+-- memory fails it, unless a link that leads nowhere lay there
 pub record LinkedBytes (cache : List ℕ) (key : Option (List ℕ)) (path : List ℕ) (s : Said)
     (held : List ℕ) (r : Result (List Hash) Error) (old new : List LogItem) : Type 0 where
   pub sound : IsCache cache new
@@ -58,6 +59,8 @@ pub record LinkedBytes (cache : List ℕ) (key : Option (List ℕ)) (path : List
   pub stored : IfOk r (λ i. i ≡ answered (said_integrity s held) s.integrity key)
   pub leads : IfOk r (λ i. (k : List ℕ) → key ≡ Some k
       → LeadsToEntry cache k s i (length held) new)
+  pub may_lead : (k : List ℕ) → key ≡ Some k → MayLeadToEntry cache k s
+      (answered (said_integrity s held) s.integrity key) (length held) old new
   pub lies : IfOk r (λ i. LiesLinked cache (said_integrity s held) path old new)
   pub beside : KeepsBesideLink cache key (said_integrity s held) path old new
   pub fails : SaysPlain s → s.integrity ≡ None → IfErr r (λ e. IsExcused e old new)

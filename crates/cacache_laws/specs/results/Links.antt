@@ -1,14 +1,14 @@
 -- What links gave their caller and left, by their results, on a store in memory.
-use Rattle.std.specs.Prelude.{◌≡◌, ◌<◌, ◌^◌, ℕ, true, List, [], Option, None, Some, Result, Err, IfOk, IfSome, length}
+use Rattle.std.specs.Prelude.{◌≡◌, ◌⊎◌, ◌<◌, ◌^◌, ℕ, true, List, [], Option, None, Some, Result, Err, IfOk, IfSome, length}
 use Rattle.cacache_core.specs.{declared.{errors.{Error.{Error, TheVariants.{IoError}}, Fault.{Fault}}, integrity.{algorithm.Algorithm.TheVariants.{Sha256}, digest.Hash.{Hash}}}, Integrity.{integrity_under}}
 use Rattle.cacache_store.specs.declared.{env.Env.{Env}, store.log.LogItem.{LogItem}}
-use Rattle.cacache_disk.specs.memory.Replay.{shown, tree_of}
+use Rattle.cacache_disk.specs.Replay.{shown, tree_of}
 use Rattle.cacache_calls.specs.declared.command.Command.TheVariants as commands
 use Rattle.cacache_calls.specs.{declared.reply.Reply.TheVariants.{Stored}, Linking.{based}, Runs.{reply_of}}
 use Rattle.cacache_value.specs.{Shows.{blob_there}, Value.{AtLink, Blob}}
 use Rattle.cacache_jobs.specs.Environment.{Calls, RunsTimed}
-use Rattle.cacache_sync.specs.put.LinkCalls.{link_to}
-use Rattle.cacache_laws.specs.{Caches.{IsCache, Grows, lies_under}, ExportEffects.{IsApart}, Inserts.{leads_to}, LinkAnswers.{target_bytes}, Links.{KeepsBesideLink}, Succeeds.{NamesFolder, is_yes}, results.Success.{FailsFor, FailsForMemory}}
+use Rattle.cacache_sync.specs.put.OpenLinkers.{link_to}
+use Rattle.cacache_laws.specs.{Caches.{IsCache, Grows, lies_under}, ExportEffects.{IsApart}, Inserts.{leads_to}, Beside.{found_under}, LinkAnswers.{target_bytes}, Links.{KeepsBesideLink}, Succeeds.{NamesFolder, is_yes}, results.Success.{FailsFor, FailsForMemory}}
 
 -- under this integrity lies a link to the path, unless something lay there before
 abbrev pub LiesLinked : List ℕ → List Hash → List ℕ → List LogItem → List LogItem → Type 0
@@ -27,6 +27,8 @@ pub record LinksBytes (cache : List ℕ) (key : Option (List ℕ)) (path held : 
   pub stored : IfOk r (λ i. i ≡ integrity_under Sha256 held)
   pub leads : IfOk r (λ i. (k : List ℕ) → key ≡ Some k → leads_to cache k new ≡ Some i)
   pub lies : IfOk r (λ i. LiesLinked cache i path old new)
+  pub may_lead : (k : List ℕ) → key ≡ Some k → (found_under cache k new ≡ found_under cache k old)
+      ⊎ (leads_to cache k new ≡ Some (integrity_under Sha256 held))
   pub beside : KeepsBesideLink cache key (integrity_under Sha256 held) path old new
 
 -- a link: a cache is left, and so much of the bytes that the target shows. If the cache's path names

@@ -1,14 +1,14 @@
 -- What a listing gave its caller and left, by its reply, on a store in memory.
 use Rattle.std.specs.Prelude.{◌≡◌, ◌⊎◌, ℕ, All, List, [], ◌∷◌, Option, Some, Ok, Err, map}
 use Rattle.cacache_store.specs.declared.{env.Env.{Env}, store.log.LogItem.{LogItem}}
-use Rattle.cacache_core.specs.{declared.errors.{Error.{Error, TheVariants.{IoError}}, Fault.TheVariants.{TooDeep}}, PathNames.{home_of}, Paths.{index_area}}
-use Rattle.cacache_disk.specs.{declared.node.Node.{Node}, memory.Replay.{tree_of}}
-use Rattle.cacache_entry.specs.Latest.{Found}
+use Rattle.cacache_core.specs.{declared.errors.{Error.{Error, TheVariants.{IoError}}, Fault.TheVariants.{TooDeep}}, Paths.{home_of, index_area}}
+use Rattle.cacache_disk.specs.{declared.node.Node.{Node}, Replay.{tree_of}}
+use Rattle.cacache_entry.specs.Bucket.{Found}
 use Rattle.cacache_calls.specs.declared.command.Command.TheVariants as commands
-use Rattle.cacache_calls.specs.{declared.reply.Reply.{Reply, TheVariants.{Listed, Refused}}, ListReplies.{In}, Replies.{OrMemory}, Runs.{Ran, plain_reply, without_message}, State.{Item}, Table.{opening}}
+use Rattle.cacache_calls.specs.{declared.reply.Reply.{Reply, TheVariants.{Listed, Refused}}, Replies.{In, OrMemory}, Runs.{Ran, plain_reply, without_message}, State.{Item}, Table.{opening}}
 use Rattle.cacache_value.specs.Kinds.{node_below}
-use Rattle.cacache_jobs.specs.Sites.{site_of}
-use Rattle.cacache_laws.specs.{Caches.{IsCache, IsExcused}, Keeping.{found_under}, ListedKeys.{GivesKeys}, OpenWriters.{LeavesKnownCache}, Succeeds.{NamesFolder, ListsAll}}
+use Rattle.cacache_jobs.specs.JobStates.{site_of}
+use Rattle.cacache_laws.specs.{Caches.{IsCache, IsExcused}, Beside.{found_under}, ListedKeys.{GivesKeys}, OpenWriters.{LeavesKnownCache}, Succeeds.{NamesFolder, ListsAll}}
 
 -- these are the entries that keys lead to, all of them
 pub record AreAllEntries (cache : List ℕ) (log : List LogItem) (entries : List Found) : Type 0 where

@@ -1,16 +1,16 @@
 -- What a store in memory holds if it began with what a loss left, and what is read and written there.
 use Rattle.std.specs.{Prelude.{◌≡◌, ◌⊎◌, ℕ, List, ◌∷◌, ◌++◌, Option, None, Some, Vec, Result, IfErr, IfOk}, Global.{Global}}
-use Rattle.cacache_core.specs.{declared.{errors.Error.{Error}, integrity.{algorithm.Algorithm.{Algorithm}, digest.Hash.{Hash}}}, Digests.{digest}, Integrity.{IsIntegrity, integrity_under}, PathNames.{Names, home_of}, Paths.{bucket_names}}
+use Rattle.cacache_core.specs.{declared.{errors.Error.{Error}, integrity.{algorithm.Algorithm.{Algorithm}, digest.Hash.{Hash}}}, Integrity.{digest, IsIntegrity, integrity_under}, Paths.{Names, home_of, bucket_names}}
 use Rattle.cacache_store.specs.declared.{env.Env.{Env}, store.log.LogItem.{LogItem}}
-use Rattle.cacache_disk.specs.{Tree.{Tree}, memory.Replay.{tree_of}}
-use Rattle.cacache_entry.specs.{Entry.{Entry}, Latest.{NoneAnswers}}
+use Rattle.cacache_disk.specs.{Tree.{Tree}, Replay.{tree_of}}
+use Rattle.cacache_entry.specs.{Entry.{Entry}, Bucket.{NoneAnswers}}
 use Rattle.cacache_calls.specs.declared.command.Command.TheVariants as commands
 use Rattle.cacache_calls.specs.{declared.{command.Put.{Put}, reply.Reply.TheVariants.{Stored}}, Runs.{reply_of}, Storing.{insertion_of, put_commit}}
 use Rattle.cacache_loss.specs.Loss.{Loss, Lost}
-use Rattle.cacache_history.specs.{declared.record.Record.{Record}, History.{History}, Setup.{home}, Values.{steps_of}, durable.{FewCalls.{FewCalls}, Behind.{NoneAppends}, Outlasting.{DurablePut, IsAppendOf, Outlives, moment_at}}}
+use Rattle.cacache_history.specs.{declared.record.Record.{Record}, History.{History}, Setup.{home}, Values.{steps_of}, durable.{QuietMoves.{FewCalls}, Behind.{NoneAppends}, Outlasting.{DurablePut, IsAppendOf, Outlives, moment_at}}}
 use Rattle.cacache_jobs.specs.Environment.{Calls, RunsPut}
-use Rattle.cacache_sync.specs.{put.Puts.{keyed_put}, Reads.{bytes_read}}
-use Rattle.cacache_laws.specs.{Beside.{KeepsBeside}, Caches.{HasKey, IsExcused}, Inserts.{leads_to}, Keeping.{found_under, StaysKnown}, ReadAnswers.{entries_on}, Standing.{IsStanding}, Succeeds.{IsReady}, results.{Reads.{GivesJust, LiesWhole}, Success.{FailsForMemory}}}
+use Rattle.cacache_sync.specs.{put.KeyedWriters.{keyed_put}, Reads.{bytes_read}}
+use Rattle.cacache_laws.specs.{Beside.{KeepsBeside, found_under, StaysKnown}, Caches.{HasKey, IsExcused}, Inserts.{leads_to}, ReadAnswers.{entries_on}, Standing.{IsStanding}, Succeeds.{IsReady}, results.{Reads.{GivesJust, LiesWhole}, Success.{FailsForMemory}}}
 
 -- ---- what is left
 

@@ -2,15 +2,15 @@
 use Rattle.std.specs.{Prelude.{◌≡◌, ◌⊎◌, ℕ, Bool, true, false, List, Option, None, Some, Vec, Result, Ok, IfOk, IfErr, MatchResult, option_map}, Global.{Global}}
 use Rattle.cacache_core.specs.{declared.{errors.Error.{Error, TheVariants.{EntryNotFound, OutOfMemory}}, integrity.digest.Hash.{Hash}}, Integrity.{Meets}}
 use Rattle.cacache_store.specs.declared.{env.Env.{Env}, store.log.LogItem.{LogItem}}
-use Rattle.cacache_disk.specs.memory.Replay.{shown, tree_of}
-use Rattle.cacache_entry.specs.{declared.metadata.Metadata.{Metadata}, Latest.{Found}, View.{found_view}}
+use Rattle.cacache_disk.specs.Replay.{shown, tree_of}
+use Rattle.cacache_entry.specs.{declared.metadata.Metadata.{Metadata}, Bucket.{Found}, View.{found_view}}
 use Rattle.cacache_calls.specs.declared.command.Command.TheVariants as commands
 use Rattle.cacache_calls.specs.declared.reply.Reply.TheVariants as replies
 use Rattle.cacache_calls.specs.{Replies.{looked_up}, Runs.{reply_of}}
 use Rattle.cacache_value.specs.Value.{AtLink}
 use Rattle.cacache_jobs.specs.Environment.{Calls}
 use Rattle.cacache_sync.specs.Reads.{bytes_read}
-use Rattle.cacache_laws.specs.{Caches.{IsCache, HasContent, HasKey, LacksKey, IsExcused, AStepFailed, lies_under}, Inserts.{leads_to}, Keeping.{found_under}, Looks.{GivesHeld, GivesOfKey, bytes_under}, OpenWriters.{LeavesKnownCache}, Succeeds.{NamesFolder}, results.Success.{FailsForMemory}}
+use Rattle.cacache_laws.specs.{Caches.{IsCache, HasContent, HasKey, LacksKey, IsExcused, AStepFailed, lies_under}, Inserts.{leads_to}, Beside.{found_under}, Looks.{GivesHeld, GivesOfKey, bytes_under}, OpenWriters.{LeavesKnownCache}, Succeeds.{NamesFolder}, results.Success.{FailsForMemory}}
 
 -- Each of these calls leaves the whole store as it was: files apart from the cache too.
 
@@ -87,14 +87,16 @@ pub record EntryFound (cache key : List ℕ) (r : Result (Option Metadata) Error
   pub fails : IfErr r (λ e. IsExcused e old new)
   pub succeeds : NamesFolder cache → FailsForMemory r
 
--- a question whether a content is there: a no for one that is there says that a step failed
+-- a question whether a content is there: a no for one that is there says that a step failed, and an error
+-- of it, or of one that isn't there, that memory was refused
 pub record AskedContent (cache : List ℕ) (i : List Hash) (r : Result Bool Error)
     (old new : List LogItem) : Type 0 where
   pub leaves : LeavesKnownCache cache old new
   pub same : tree_of new ≡ tree_of old
   pub there : (bytes : List ℕ) → HasContent cache i bytes old
-      → IfOk r (λ there. there ≡ false → AStepFailed old new)
-  pub absent : lies_under cache i old ≡ None → IfOk r (λ there. there ≡ false)
+      → MatchResult r (λ there. there ≡ false → AStepFailed old new) (λ e. e ≡ OutOfMemory)
+  pub absent : lies_under cache i old ≡ None
+      → MatchResult r (λ there. there ≡ false) (λ e. e ≡ OutOfMemory)
   pub succeeds : NamesFolder cache → FailsForMemory r
   pub held : (bytes : List ℕ) → NamesFolder cache → HasContent cache i bytes old
       → IfOk r (λ there. there ≡ true)

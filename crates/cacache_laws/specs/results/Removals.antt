@@ -1,15 +1,15 @@
 -- What calls that remove gave their caller and left, by their results, on a store in memory.
 use Rattle.std.specs.Prelude.{◌≡◌, ◌⊎◌, ℕ, List, [], Option, None, Some, Result, OnOk, IfErr}
-use Rattle.cacache_core.specs.{declared.{errors.{Error.{Error, TheVariants.{IoError, OutOfMemory}}, Fault.TheVariants.{NotFound, TooDeep}}, integrity.digest.Hash.{Hash}}, PathNames.{home_of}}
+use Rattle.cacache_core.specs.{declared.{errors.{Error.{Error, TheVariants.{IoError, OutOfMemory}}, Fault.TheVariants.{NotFound, TooDeep}}, integrity.digest.Hash.{Hash}}, Paths.{home_of}}
 use Rattle.cacache_store.specs.declared.{env.Env.{Env}, store.log.LogItem.{LogItem}}
 use Rattle.cacache_calls.specs.declared.command.Command.TheVariants as commands
 use Rattle.cacache_calls.specs.{Replies.{done}, Runs.{reply_of, without_message}}
 use Rattle.cacache_value.specs.Kinds.{node_below}
-use Rattle.cacache_disk.specs.memory.Replay.{tree_of}
+use Rattle.cacache_disk.specs.Replay.{tree_of}
 use Rattle.cacache_jobs.specs.Environment.{Calls, RunsTimed}
 use Rattle.cacache_sync.specs.Lookups.{delete_of}
 use Rattle.cacache_history.specs.Values.{IsThere}
-use Rattle.cacache_laws.specs.{Caches.{IsCache, IsEmptyCache, IsExcused, Grows, HasKey, LacksKey, lies_under}, Keeping.{KeepsOthers}, Removed.{KeepsApart, KeepsApartFrom}, Succeeds.{NamesFolder, IsReady}, results.Success.{FailsForMemory}}
+use Rattle.cacache_laws.specs.{Caches.{IsCache, IsEmptyCache, IsExcused, Grows, HasKey, LacksKey, lies_under}, Beside.{KeepsOthers}, Removed.{KeepsApart, KeepsApartFrom}, Succeeds.{NamesFolder, IsReady}, results.Success.{FailsForMemory}}
 
 -- a removal of a key: it leads to nothing, or the error is excused, and all else stays
 pub record KeyRemoved (cache key : List ℕ) (r : Result (Unit {0}) Error) (old new : List LogItem)

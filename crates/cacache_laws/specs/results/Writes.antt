@@ -6,8 +6,8 @@ use Rattle.cacache_store.specs.declared.{env.Env.{Env}, store.log.LogItem.{LogIt
 use Rattle.cacache_calls.specs.declared.command.Command.TheVariants as commands
 use Rattle.cacache_calls.specs.{declared.reply.Reply.TheVariants.{Stored}, Runs.{reply_of}}
 use Rattle.cacache_jobs.specs.Environment.{RunsNumbered, RunsPut, RunsTimed}
-use Rattle.cacache_sync.specs.put.{Options.{Said}, Puts.{keyed_put, unkeyed_put, insert_of}}
-use Rattle.cacache_laws.specs.{Beside.{IsOther, ShareAddress}, Caches.{IsCache, HasContent, HasKey, IsExcused, Grows}, Inserts.{leads_to}, Keeping.{found_under, KeepsOthers}, Succeeds.{NamesFolder, IsReady}, results.Success.{FailsForMemory}}
+use Rattle.cacache_sync.specs.put.KeyedWriters.{Said, keyed_put, unkeyed_put, insert_of}
+use Rattle.cacache_laws.specs.{Beside.{IsOther, ShareAddress, found_under, KeepsOthers}, Caches.{IsCache, HasContent, HasKey, IsExcused, Grows}, Inserts.{leads_to}, Succeeds.{NamesFolder, IsReady}, results.Success.{FailsForMemory}}
 
 -- ---- what stays
 

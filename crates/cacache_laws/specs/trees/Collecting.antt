@@ -1,13 +1,13 @@
 -- What a collection leaves.
 use Rattle.std.specs.{Prelude.{◌≡◌, ◌++◌, ℕ, Bool, true, false, not, List, [], ◌∷◌, Option, None, Some, Ok, Contains, filter, length, map}, List.{list_any}}
-use Rattle.cacache_core.specs.{declared.integrity.digest.Hash.{Hash}, Integrity.{IsHash, IsIntegrity, address}, Same.{same_hash}, PathLaws.{IsKeyDigest}, PathNames.{Names, home_of}, Paths.{joined, content_names}}
+use Rattle.cacache_core.specs.{declared.integrity.digest.Hash.{Hash}, Integrity.{IsHash, address}, Comparing.{same_hash}, Laws.{IsKeyDigest}, Paths.{Names, home_of, joined, content_names}}
 use Rattle.cacache_store.specs.declared.store.{log.LogItem.{LogItem}, step.Step.TheVariants.{RemoveFile}, answer.Answer.TheVariants.{Done}}
-use Rattle.cacache_disk.specs.{declared.{luck.Luck.TheVariants.{Plain}, node.Node.TheVariants.{Link}}, Tree.{Tree, look}, Rooted.{Rooted}, Apply.{apply}, memory.Replay.{tree_of}}
-use Rattle.cacache_entry.specs.Latest.{Found}
+use Rattle.cacache_disk.specs.{declared.{luck.Luck.TheVariants.{Plain}, node.Node.TheVariants.{Link}}, Tree.{Tree, look}, Apply.{apply}, Replay.{tree_of}}
+use Rattle.cacache_entry.specs.Bucket.{Found}
 use Rattle.cacache_calls.specs.declared.command.Command.TheVariants as commands
-use Rattle.cacache_calls.specs.{declared.reply.Reply.{Reply, TheVariants.{Listed}}, State.{Site, Item}, Table.{opening}, Runs.{Moves, Runs}}
+use Rattle.cacache_calls.specs.{declared.reply.Reply.{Reply}, State.{Site, Item}}
 use Rattle.cacache_value.specs.Kinds.{Elsewhere, IsFor}
-use Rattle.cacache_laws.specs.{Caches.{IsCache}, Sequence.{IsSound}, trees.{Contents.{HoldsJust, bucket_in, content_in}, Answers.{AnsweredBy, AnswersOn}, Index.{IndexLists, is_failure}}}
+use Rattle.cacache_laws.specs.{Caches.{IsCache}, trees.{Contents.{HoldsJust, bucket_in, content_in}, Answers.{AnswersOn}, Index.{IndexLists}}}
 
 -- each link leads out of the cache
 abbrev pub LinksLeadOut : Names → Tree → Type 0
@@ -39,44 +39,6 @@ pub record IsCollected (home : Names) (dropped : List Hash) (t new : Tree) : Typ
       → content_in home new h ≡ content_in home t h
   pub buckets : (digest : List ℕ) → IsKeyDigest digest
       → bucket_in home new digest ≡ bucket_in home t digest
-
--- so it is after removals
-abbrev pub RemovalsLeave : Type 0
-RemovalsLeave =
-    (cache : List ℕ) (home : Names) (dropped : List Hash) (t new : Tree)
-    → home_of cache ≡ Some home → ((h : Hash) → Contains dropped h → IsHash h)
-    → Removes cache dropped t new → IsCollected home dropped t new
-
--- and calls may be made on the cache that they leave
-abbrev pub RemovalsLeaveSound : Type 0
-RemovalsLeaveSound =
-    (cache : List ℕ) (dropped : List Hash) (t new : Tree)
-    → Removes cache dropped t new → IsSound (home_of cache) t → IsSound (home_of cache) new
-
--- if no live content is removed, each read by key makes the steps with the answers that it would
--- have made before, and so has the reply that it would have had
-abbrev pub CollectionsKeepReads : Type 0
-CollectionsKeepReads =
-    (site : Site) (home : Names) (t new : Tree) (listing : Moves) (items : List Item)
-    (dropped : List Hash) (key : List ℕ) (moves : Moves) (reply : Reply)
-    → home_of site.cache ≡ Some home → Rooted t → LinksLeadOut home t
-    → Runs (opening site commands.Ls) listing (Listed items) → AnsweredBy t listing
-    → ((item : Item) → Contains items item → is_failure item ≡ false)
-    → ((found : Found) → Contains items (Ok found) → IsIntegrity found.integrity)
-    → ((h : Hash) → Contains dropped h → IsHash h × (IsLive items h → ⊥))
-    → Removes site.cache dropped t new
-    → Runs (opening site (commands.Get key)) moves reply → AnsweredBy new moves
-    → AnsweredBy t moves
-
--- the same for lookups, whichever contents were removed
-abbrev pub CollectionsKeepLookups : Type 0
-CollectionsKeepLookups =
-    (site : Site) (home : Names) (t new : Tree) (dropped : List Hash)
-    (key : List ℕ) (moves : Moves) (reply : Reply)
-    → home_of site.cache ≡ Some home → LinksLeadOut home t
-    → ((h : Hash) → Contains dropped h → IsHash h) → Removes site.cache dropped t new
-    → Runs (opening site (commands.Find key)) moves reply → AnsweredBy new moves
-    → AnsweredBy t moves
 
 -- ---- a collection
 

@@ -1,11 +1,10 @@
 -- What a compaction leaves of a tree, and what lookups, reads and listings answer there.
 use Rattle.std.specs.Prelude.{◌≡◌, ◌⊎◌, ◌++◌, ℕ, List, [], ◌∷◌, Bool, true, Option, None, Some}
-use Rattle.cacache_core.specs.{declared.integrity.digest.Hash.{Hash}, Integrity.{IsIntegrity}, PathNames.{Names, home_of}, Paths.{temp_area}}
-use Rattle.cacache_disk.specs.{declared.node.Node.{Node, TheVariants.{Folder, File}}, Rooted.{Rooted}, Tree.{Tree, look}}
-use Rattle.cacache_entry.specs.Latest.{Found}
-use Rattle.cacache_calls.specs.State.{Site}
+use Rattle.cacache_core.specs.{declared.integrity.digest.Hash.{Hash}, Integrity.{IsIntegrity}, Paths.{Names, temp_area}}
+use Rattle.cacache_disk.specs.{declared.node.Node.{Node, TheVariants.{Folder, File}}, Tree.{Tree, look}}
+use Rattle.cacache_entry.specs.Bucket.{Found}
 use Rattle.cacache_value.specs.Kinds.{Bucket, path_kind}
-use Rattle.cacache_laws.specs.trees.{Collecting.{LinksLeadOut, ReadsAsBefore}, Compacting.{compact_text}, Contents.{content_in}, Housed.{Housed}, Idle.{Finds}, Mending.{found_in}, Temporary.{is_temp_name, temp_at}}
+use Rattle.cacache_laws.specs.trees.{Compacting.{compact_text}, Contents.{content_in}, Idle.{Finds}, Verifying.{found_in}, Temporary.{is_temp_name, temp_at}}
 
 -- ---- at one path, from what was there to what is there
 
@@ -56,25 +55,3 @@ pub record KeepsFound (home : Names) (t new : Tree) : Type 0 where
 abbrev pub FindsFormed : List ℕ → Tree → Type 0
 FindsFormed cache t =
     (key : List ℕ) (found : Found) → Finds cache t key found → IsIntegrity found.integrity
-
--- ---- laws
-
--- a compaction keeps what is found, also if it is cut short
-abbrev pub CompactionsKeep : Type 0
-CompactionsKeep =
-    (durable : Bool) (home : Names) (t new : Tree)
-    → CutShort durable home t new → KeepsFound home t new
-
--- if links lead out of the cache and found entries have integrities, calls answer as before
-abbrev pub CompactionsAnswer : Type 0
-CompactionsAnswer =
-    (durable : Bool) (site : Site) (home : Names) (t new : Tree)
-    → home_of site.cache ≡ Some home → LinksLeadOut home t → FindsFormed site.cache t
-    → CutShort durable home t new → ReadsAsBefore site t new
-
--- so it is if each thing lies in its place, and entries in the buckets of their keys
-abbrev pub HousesAreFit : Type 0
-HousesAreFit =
-    (cache : List ℕ) (home : Names) (t : Tree)
-    → home_of cache ≡ Some home → Rooted t → Housed (Some home) t
-    → LinksLeadOut home t × FindsFormed cache t

@@ -1,7 +1,7 @@
 -- The bytes of a bucket that a compaction leaves, and which lines stay.
 use Rattle.std.specs.{Prelude.{◌≡◌, ◌++◌, ◌==◌, ◌&&◌, ◌||◌, ℕ, List, [], ◌∷◌, Bool, true, false, Option, None, Some, if◌then◌else◌, bytes_eq, filter, filter_map, fold, is_some, length, not, option_and_then, option_map}, List.{flat_map, list_any}}
-use Rattle.cacache_core.specs.Digests.{sha256_hex}
-use Rattle.cacache_entry.specs.{Entry.{Entry, closing}, Bucket.{cut, without_cr, entry_of_piece, entries_of}, Latest.{answer_of, latest}}
+use Rattle.cacache_core.specs.Integrity.{sha256_hex}
+use Rattle.cacache_entry.specs.{Entry.{Entry, closing}, Bucket.{cut, without_cr, entry_of_piece, entries_of, answer_of, latest}}
 use Rattle.cacache_calls.specs.Walking.{once, items_in}
 
 -- ---- what a piece is

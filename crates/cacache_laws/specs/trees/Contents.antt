@@ -1,12 +1,12 @@
 -- What a listing of the contents shows of a tree.
 use Rattle.std.specs.{Prelude.{◌≡◌, ◌↔◌, ◌<◌, ◌++◌, ℕ, List, [], ◌∷◌, Option, Some, IsTrue, All, Contains, length}, List.Sorted.{IsStrictlySortedBy}}
-use Rattle.cacache_core.specs.{declared.integrity.digest.Hash.{Hash}, Integrity.{IsHash}, PathNames.{Names, IsProperName, home_of}, Paths.{join, joined, content_names, content_area}}
-use Rattle.cacache_disk.specs.{Rooted.{Rooted}, Tree.{Tree, look}}
+use Rattle.cacache_core.specs.{declared.integrity.digest.Hash.{Hash}, Integrity.{IsHash}, Paths.{Names, IsProperName, home_of, join, joined, content_names, content_area}}
+use Rattle.cacache_disk.specs.Tree.{Tree, look}
 use Rattle.cacache_calls.specs.Runs.{Moves}
 use Rattle.cacache_entry.specs.Entry.{Entry}
 use Rattle.cacache_value.specs.Value.{Blob, value_of_tree}
-use Rattle.cacache_walks.specs.{Addresses.{IsStrange}, Listing.{IsByHash, Sorts, content_area_in, hash_cmp}, Reading.{ReadsFolders, top_folder, files_shown}}
-use Rattle.cacache_laws.specs.trees.{Answers.{AnsweredBy}, Walks.{ReadAt, is_leaf}}
+use Rattle.cacache_walks.specs.{Addresses.{IsStrange}, Listing.{content_area_in, hash_cmp}, Reading.{ReadsFolders, top_folder, files_shown}}
+use Rattle.cacache_laws.specs.trees.Walks.{ReadAt, is_leaf}
 
 -- the integrities of one hash whose content's path is among the files
 abbrev pub AreThoseOf : List ℕ → List (List ℕ) → List (List Hash) → Type 0
@@ -56,16 +56,6 @@ pub record HoldsJust
   pub held : (h : Hash) → IsHash h → Contains hashes h ↔ IsHeld home t h
   pub others : (path : List ℕ)
       → Contains strange path ↔ (LiesBelow cache home t path × IsStrange cache path)
-
--- so it does once its folder was walked through and what was found is sorted
-abbrev pub ListingsHold : Type 0
-ListingsHold =
-    (cache : List ℕ) (home : Names) (t : Tree) (moves : Moves)
-    (addresses : List (List Hash)) (strange : List (List ℕ)) (order : IsByHash addresses)
-    → home_of cache ≡ Some home → Rooted t
-    → ReadsFolders (top_folder (content_area_in cache) ∷ []) moves → AnsweredBy t moves
-    → Sorts cache (files_shown moves) addresses strange
-    → HoldsJust cache home t order.hashes strange
 
 -- what one tree holds is one list
 abbrev pub HoldingsAgree : Type 0

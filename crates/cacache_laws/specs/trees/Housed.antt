@@ -1,14 +1,14 @@
 -- Caches where each thing lies in its place, and each entry in the bucket of its key.
 use Rattle.std.specs.Prelude.{◌≡◌, ◌⊎◌, ℕ, List, Option, Some, All, Contains}
-use Rattle.cacache_core.specs.PathNames.{Names, home_of}
+use Rattle.cacache_core.specs.Paths.{Names, home_of}
 use Rattle.cacache_store.specs.declared.store.log.LogItem.{LogItem}
-use Rattle.cacache_disk.specs.{declared.node.Node.{Node}, Tree.{Tree, look}, Rooted.{Rooted}, memory.Replay.{tree_of}}
-use Rattle.cacache_entry.specs.{FittingEntries.{IsEntry}, Latest.{Found}}
+use Rattle.cacache_disk.specs.{declared.node.Node.{Node}, Tree.{Tree, look, Rooted}, Replay.{tree_of}}
+use Rattle.cacache_entry.specs.{FittingEntries.{IsEntry}, Bucket.{Found}}
 use Rattle.cacache_calls.specs.declared.command.Command.TheVariants as commands
-use Rattle.cacache_calls.specs.{declared.{command.Delete.{Delete}, reply.Reply.TheVariants.{Done}}, Inserting.{deletion}, Runs.{Moves, Runs}, Sound.{FormedIfWritten}, State.{Site}, Table.{opening}}
+use Rattle.cacache_calls.specs.State.{Site}
 use Rattle.cacache_value.specs.{Acts.{list_of}, Kinds.{Elsewhere, Way, path_kind}, Placed.{Placed}, Value.{wide_value}}
-use Rattle.cacache_history.specs.Buckets.{BucketsHaveKeys, HoldOwn}
-use Rattle.cacache_laws.specs.{Caches.{IsCache}, Sequence.{tree_on, AreAnswered}, trees.{Index.{IndexLists}, Mending.{found_in}}}
+use Rattle.cacache_history.specs.AddedEntries.{BucketsHaveKeys, HoldOwn}
+use Rattle.cacache_laws.specs.{Caches.{IsCache}, trees.{Index.{IndexLists}, Verifying.{found_in}}}
 
 -- each thing lies in its place; each bucket is that of some key, and its entries are well-formed ones
 -- of its own keys
@@ -39,12 +39,3 @@ Beside folder q = (path_kind folder q ≡ Elsewhere) ⊎ (path_kind folder q ≡
 abbrev pub Still : Option Names → Tree → Tree → Type 0
 Still folder t new =
     (q : Names) (node : Node) → Beside folder q → look t q ≡ Some node → look new q ≡ Some node
-
--- a call that adds a tombstone leaves each thing in its place, and what is apart from the cache
-abbrev pub TombstonesHouse : Type 0
-TombstonesHouse =
-    (site : Site) (home : Names) (d : Delete) (moves : Moves) (t : Tree)
-    → home_of site.cache ≡ Some home → FormedIfWritten (deletion site.cache d)
-    → Runs (opening site (commands.Delete d)) moves Done → AreAnswered t moves
-    → Housed (Some home) t
-    → Housed (Some home) (tree_on t moves) × Still (Some home) t (tree_on t moves)

@@ -1,13 +1,13 @@
 -- Two trees, one of which lacks contents that no lookup leads to; and removals, made on both.
 use Rattle.std.specs.Prelude.{◌≡◌, ◌⊎◌, ℕ, List, [], Bool, true, None, Some, Ok, IsTrue}
-use Rattle.cacache_core.specs.{declared.errors.{Error.TheVariants.{IoError, OutOfMemory}, Fault.TheVariants.{TooDeep}}, Integrity.{IsIntegrity}, PathNames.{Names, names_of, home_of}}
+use Rattle.cacache_core.specs.{declared.errors.{Error.TheVariants.{IoError, OutOfMemory}, Fault.TheVariants.{TooDeep}}, Integrity.{IsIntegrity}, Paths.{Names, names_of}}
 use Rattle.cacache_store.specs.declared.store.{log.LogItem.{LogItem}, step.Step.TheVariants.{ReadAll}, answer.Answer.TheVariants.{Bytes}}
-use Rattle.cacache_disk.specs.{declared.luck.Luck.TheVariants.{Plain}, Tree.{Tree, look}, Apply.{apply}, memory.Replay.{tree_of}}
-use Rattle.cacache_entry.specs.{Bucket.{entries_of}, Latest.{Found, latest}}
-use Rattle.cacache_calls.specs.{declared.{command.Command.{Command}, reply.Reply.{Reply, TheVariants.{Refused}}}, Licence.{licence}, State.{Site}, StepPaths.{bucket_path, content_path}}
+use Rattle.cacache_disk.specs.{declared.luck.Luck.TheVariants.{Plain}, Tree.{Tree, look}, Apply.{apply}}
+use Rattle.cacache_entry.specs.Bucket.{entries_of, Found, latest}
+use Rattle.cacache_calls.specs.{declared.{command.Command.{Command}, reply.Reply.{Reply, TheVariants.{Refused}}}, Licence.{licence}, Steps.{bucket_path, content_path}}
 use Rattle.cacache_calls.specs.declared.command.Command.TheVariants as commands
 use Rattle.cacache_value.specs.Kinds.{Content, path_kind}
-use Rattle.cacache_laws.specs.{Caches.{Called}, trees.{Walks.{is_leaf}, Collecting.{LinksLeadOut, ReadsAsBefore}}}
+use Rattle.cacache_laws.specs.{Caches.{Called}, trees.{Walks.{is_leaf}, Collecting.{LinksLeadOut}}}
 
 -- ---- idle contents
 
@@ -56,21 +56,3 @@ pub record Removed (cache : List ℕ) (command : Command) (old new : List LogIte
   pub reply : Reply
   pub called : Called cache command reply old new
   pub whole : BreaksOff command reply → ⊥
-
--- ---- laws
-
--- so it is still after a removal that is made on both, whatever each of the two answers
-abbrev pub StillLacksIdle : Type 0
-StillLacksIdle =
-    (cache : List ℕ) (home : Names) (command : Command) (full rest lean left : List LogItem)
-    → home_of cache ≡ Some home
-    → Removed cache command full rest → Removed cache command lean left
-    → LacksIdle cache home (tree_of full) (tree_of lean)
-    → LacksIdle cache home (tree_of rest) (tree_of left)
-
--- each lookup and each verified read by key answers on the lean tree what it may answer on the full
-abbrev pub IdleIsUnseen : Type 0
-IdleIsUnseen =
-    (site : Site) (home : Names) (full lean : Tree)
-    → home_of site.cache ≡ Some home → LacksIdle site.cache home full lean
-    → ReadsAsBefore site full lean

@@ -1,30 +1,18 @@
 -- What a listing of the index shows of a tree that nobody else changes.
 use Rattle.std.specs.Prelude.{◌≡◌, ℕ, List, [], ◌∷◌, Bool, true, false, Some, Ok, Err, Contains}
-use Rattle.cacache_core.specs.{declared.errors.{Error.TheVariants.{IoError}, Fault.TheVariants.{NotFound}}, PathNames.{Names, home_of}}
-use Rattle.cacache_disk.specs.{declared.luck.Luck.TheVariants.{Plain}, Tree.{Tree}, Rooted.{Rooted}, Apply.{apply}}
+use Rattle.cacache_core.specs.{declared.errors.{Error.TheVariants.{IoError}, Fault.TheVariants.{NotFound}}, Paths.{Names, home_of}}
+use Rattle.cacache_disk.specs.{declared.luck.Luck.TheVariants.{Plain}, Tree.{Tree, Rooted}, Apply.{apply}}
 use Rattle.cacache_store.specs.declared.store.{step.Step.TheVariants.{ReadAll}, answer.Answer.TheVariants.{Bytes}}
-use Rattle.cacache_entry.specs.{Bucket.{entries_of}, Latest.{Found, latest}}
-use Rattle.cacache_calls.specs.{StepPaths.{bucket_path}, declared.reply.Reply.TheVariants.{Listed}, State.{Site, Item}, Table.{opening}, Runs.{Moves, Runs}}
+use Rattle.cacache_entry.specs.Bucket.{entries_of, Found, latest}
+use Rattle.cacache_calls.specs.{Steps.{bucket_path}, declared.reply.Reply.TheVariants.{Listed}, State.{Site, Item}}
 use Rattle.cacache_calls.specs.declared.command.Command.TheVariants as commands
-use Rattle.cacache_laws.specs.trees.Answers.{AnsweredBy, AnswersOn}
+use Rattle.cacache_laws.specs.trees.Answers.{AnswersOn}
 
 -- an error other than that a file or a folder is missing
 abbrev pub is_failure : Item → Bool
 is_failure (Ok found) = false
 is_failure (Err (IoError NotFound message)) = false
 is_failure (Err error) = true
-
--- a listing without such an error lists what the lookup of each key finds
-abbrev pub ListsEachKey : Type 0
-ListsEachKey =
-    (site : Site) (home : Names) (t : Tree) (moves : Moves) (items : List Item)
-    (key bytes : List ℕ) (found : Found)
-    → home_of site.cache ≡ Some home → Rooted t
-    → Runs (opening site commands.Ls) moves (Listed items) → AnsweredBy t moves
-    → ((item : Item) → Contains items item → is_failure item ≡ false)
-    → (apply t (ReadAll (bucket_path site.cache key)) Plain).0 ≡ Bytes bytes
-    → latest key (entries_of bytes) ≡ Some found
-    → Contains items (Ok found)
 
 -- the entries among items
 abbrev pub entries_in : List Item → List Found

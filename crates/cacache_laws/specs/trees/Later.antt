@@ -2,12 +2,12 @@
 use Rattle.std.specs.Prelude.{◌≡◌, ◌⊎◌, ◌<◌, ◌^◌, ℕ, List, [], ◌∷◌, Option, None, Some, Result, Contains, IsUtf8, filter_map}
 use Rattle.cacache_core.specs.{declared.{errors.Error.{Error}, integrity.digest.Hash.{Hash}}, Integrity.{IsIntegrity}}
 use Rattle.cacache_store.specs.declared.store.{log.LogItem.{LogItem}, plain.PlainTemp.{PlainTemp}}
-use Rattle.cacache_disk.specs.memory.Replay.{IsLog, tree_of}
-use Rattle.cacache_entry.specs.Latest.{Found}
+use Rattle.cacache_disk.specs.Replay.{IsLog, tree_of}
+use Rattle.cacache_entry.specs.Bucket.{Found}
 use Rattle.cacache_calls.specs.declared.command.Command.TheVariants as commands
 use Rattle.cacache_calls.specs.{declared.{command.{Command.{Command}, Delete.{Delete}, Put.{Put}}, reply.Reply.{Reply}}, Inserting.{deletion}, Sound.{FormedIfWritten, MayBegin}}
 use Rattle.cacache_history.specs.{Lookups.{SparesKey}, Setup.{call_site, is_outside, may_export}}
-use Rattle.cacache_laws.specs.{Beside.{FitsEntry, ShareAddress}, Caches.{Called, GivesBytes, HasKey, setup_at}, GivenUp.{GivesUpTemp}, Keeping.{found_under}, OpenWriters.{CommitsBytes, IsOpened, OpensWriter}, Standing.{IsStanding}}
+use Rattle.cacache_laws.specs.{Beside.{FitsEntry, ShareAddress, found_under}, Caches.{Called, GivesBytes, HasKey, setup_at}, OpenWriters.{GivesUpTemp, CommitsBytes, IsOpened, OpensWriter}, Standing.{IsStanding}}
 
 -- ---- what spares a key
 

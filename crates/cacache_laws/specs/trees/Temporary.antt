@@ -1,13 +1,13 @@
 -- Temporary files, and what a sweep leaves.
-use Rattle.std.specs.{Prelude.{◌≡◌, ◌++◌, ◌&&◌, ◌==◌, if◌then◌else◌, ℕ, List, [], ◌∷◌, Bool, true, false, Option, None, Some, bytes_eq, codes, filter, length, map, min, ◌-◌, ◌^◌}, List.{starts_with, sum}, Bool.{nat_eq}}
-use Rattle.cacache_core.specs.{declared.integrity.digest.Hash.{Hash}, Integrity.{IsHash}, PathLaws.{IsKeyDigest}, PathNames.{Names, home_of}, Paths.{join, temp_area}}
+use Rattle.std.specs.{Prelude.{◌≡◌, ◌++◌, ◌&&◌, ◌==◌, if◌then◌else◌, ℕ, List, [], ◌∷◌, Bool, true, false, Option, None, Some, bytes_eq, codes, filter, length, min, ◌-◌, ◌^◌}, List.{starts_with, sum}, Bool.{nat_eq}}
+use Rattle.cacache_core.specs.{declared.integrity.digest.Hash.{Hash}, Integrity.{IsHash}, Laws.{IsKeyDigest}, Paths.{Names, join, temp_area}}
 use Rattle.cacache_store.specs.declared.store.answer.{Kind.{Kind}, Name.{Name}}
 use Rattle.cacache_store.specs.declared.store.answer.Kind.TheVariants as kinds
 use Rattle.cacache_store.specs.declared.store.answer.Answer.TheVariants as answers
 use Rattle.cacache_store.specs.declared.store.step.Step.TheVariants as steps
-use Rattle.cacache_disk.specs.{declared.node.Node.TheVariants.{File}, Tree.{Tree, listing, look}, Rooted.{Rooted}}
+use Rattle.cacache_disk.specs.{declared.node.Node.TheVariants.{File}, Tree.{Tree, listing, look}}
 use Rattle.cacache_calls.specs.Runs.{Moves}
-use Rattle.cacache_laws.specs.{Sequence.{tree_on, AreAnswered}, trees.Contents.{bucket_in, content_in}}
+use Rattle.cacache_laws.specs.trees.Contents.{bucket_in, content_in}
 
 -- ---- temporary files
 
@@ -69,14 +69,3 @@ pub record LeavesUntemporary (home : Names) (t new : Tree) (files : ℕ) : Type 
   pub contents : (h : Hash) → IsHash h → content_in home new h ≡ content_in home t h
   pub buckets : (digest : List ℕ) → IsKeyDigest digest
       → bucket_in home new digest ≡ bucket_in home t digest
-
--- so it is once those names in the folder of temporary files that show one were removed
-abbrev pub SweepsLeave : Type 0
-SweepsLeave =
-    (cache : List ℕ) (home : Names) (t : Tree) (names : List Name) (removed : List (Name × ℕ))
-    → home_of cache ≡ Some home → Rooted t
-    → names ≡ listing t (home ++ temp_area ∷ [])
-    → map (λ r. r.0) removed ≡ filter is_temporary names
-    → AreAnswered t (sized_removals (temp_area_in cache) removed)
-    → LeavesUntemporary home t (tree_on t (sized_removals (temp_area_in cache) removed))
-    (length removed)

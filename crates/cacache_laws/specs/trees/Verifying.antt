@@ -1,13 +1,13 @@
--- What a verification counts and finds on a tree.
-use Rattle.std.specs.Prelude.{◌≡◌, ◌⊎◌, ◌↔◌, ℕ, List, [], ◌∷◌, Bool, true, false, not, Some, Result, Ok, Err, filter, length, map}
-use Rattle.cacache_core.specs.{declared.{errors.{Error.TheVariants.{OutOfMemory}, Fault.{Fault}}, integrity.digest.Hash.{Hash}}, Integrity.{IsHash}, Meeting.{meets}, PathNames.{Names, home_of}}
+-- What a verification counts and finds on a tree, and what a repair leaves of contents.
+use Rattle.std.specs.Prelude.{◌≡◌, ℕ, List, [], ◌∷◌, Bool, false, not, Result, Ok, Err, filter, length, map, true, Option, None, Some}
+use Rattle.cacache_core.specs.{declared.{errors.Fault.{Fault}, integrity.digest.Hash.{Hash}}, Matching.{meets}, Paths.{Names, home_of}, Integrity.{IsHash}}
 use Rattle.cacache_store.specs.{declared.store.{step.Step.TheVariants.{Exists}, answer.Answer.TheVariants.{There}}, Plain.{PlainAnswer}}
-use Rattle.cacache_disk.specs.{declared.luck.Luck.TheVariants.{Plain}, Tree.{Tree}, Rooted.{Rooted}, Apply.{apply}}
-use Rattle.cacache_entry.specs.Latest.{Found}
+use Rattle.cacache_disk.specs.{declared.luck.Luck.TheVariants.{Plain}, Tree.{Tree}, Apply.{apply}}
+use Rattle.cacache_entry.specs.Bucket.{Found, latest}
+use Rattle.cacache_calls.specs.{State.{Site}, Steps.{content_path}, declared.{command.Delete.{Delete}, reply.Reply.TheVariants.{Done}}, Inserting.{deletion}, Runs.{Moves, Runs}, Sound.{FormedIfWritten}, Table.{opening}}
+use Rattle.cacache_value.specs.{Shows.{blob_bytes}, Placed.{Placed}, Value.{InFile}}
+use Rattle.cacache_laws.specs.{trees.{Contents.{HoldsJust, content_in}, Index.{IndexLists}}, ReadAnswers.{entries_on}, Sequence.{tree_on, AreAnswered}}
 use Rattle.cacache_calls.specs.declared.command.Command.TheVariants as commands
-use Rattle.cacache_calls.specs.{declared.reply.Reply.{Reply, TheVariants.{Read, Refused}}, State.{Site}, StepPaths.{content_path}, Table.{opening}, Runs.{Moves, Runs}}
-use Rattle.cacache_value.specs.{Value.{Blob}, Shows.{blob_bytes}}
-use Rattle.cacache_laws.specs.trees.{Contents.{HoldsJust, content_in}, Answers.{AnsweredBy}, Index.{IndexLists}}
 
 -- ---- good contents
 
@@ -19,17 +19,6 @@ is_met i (Err fault) = false
 -- the bytes of the content at the address, through its link if it is one, meet it
 abbrev pub is_good : Names → Tree → Hash → Bool
 is_good home t h = is_met (h ∷ []) (blob_bytes t (content_in home t h))
-
--- if a content is there, a read of its address answers bytes exactly if it is good; out of memory
--- says nothing
-abbrev pub ReadsTellGood : Type 0
-ReadsTellGood =
-    (site : Site) (home : Names) (t : Tree) (h : Hash) (blob : Blob) (moves : Moves) (reply : Reply)
-    → home_of site.cache ≡ Some home → Rooted t → IsHash h
-    → content_in home t h ≡ Some blob
-    → Runs (opening site (commands.GetHash (h ∷ []))) moves reply → AnsweredBy t moves
-    → (reply ≡ Refused OutOfMemory)
-    ⊎ (((bytes : List ℕ) × (reply ≡ Read bytes)) ↔ (is_good home t h ≡ true))
 
 -- ---- entries whose content is there
 
@@ -57,3 +46,41 @@ pub record Judges
   pub entries : List Found
   pub index : IndexLists site t entries
   pub absent : dangling ≡ filter (λ f. not (has_content site.cache t f)) entries
+
+-- ---- what a repair leaves of contents, if all that lies in the cache's folder has its place
+
+-- each thing has its place in the new tree, and it holds the contents of the old one
+pub record KeepsContents (home : Names) (t new : Tree) : Type 0 where
+  pub placed : Placed (Some home) new
+  pub contents : (h : Hash) → content_in home new h ≡ content_in home t h
+
+-- ---- a repair
+
+-- the good contents are as they were, and the others are gone; so each content that is a file meets
+-- its address
+pub record LeavesGood (home : Names) (t new : Tree) : Type 0 where
+  pub kept : (h : Hash) → IsHash h → is_good home t h ≡ true
+      → content_in home new h ≡ content_in home t h
+  pub gone : (h : Hash) → IsHash h → is_good home t h ≡ false → content_in home new h ≡ None
+  pub whole : (h : Hash) (bytes : List ℕ) → IsHash h
+      → content_in home new h ≡ Some (InFile bytes) → meets (h ∷ []) bytes ≡ true
+
+-- ---- keys
+
+-- what a lookup of the key finds in the tree
+abbrev pub found_in : Names → Tree → List ℕ → Option Found
+found_in home t key = latest key (entries_on (Some home) t key)
+
+-- the key leads to nothing, and each other key leads where it led
+pub record Hides (home : Names) (key : List ℕ) (t new : Tree) : Type 0 where
+  pub own : found_in home new key ≡ None
+  pub others : (other : List ℕ) → (other ≡ key → ⊥)
+      → found_in home new other ≡ found_in home t other
+
+-- so it is after a call that added the key's tombstone
+abbrev pub TombstonesHide : Type 0
+TombstonesHide =
+    (site : Site) (home : Names) (d : Delete) (moves : Moves) (t : Tree)
+    → home_of site.cache ≡ Some home → FormedIfWritten (deletion site.cache d)
+    → Runs (opening site (commands.Delete d)) moves Done → AreAnswered t moves
+    → Placed (Some home) t → Hides home d.key t (tree_on t moves)

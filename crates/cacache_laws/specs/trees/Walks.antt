@@ -1,7 +1,7 @@
 -- What a walk shows of the trees that it read.
 use Rattle.std.specs.Prelude.{◌≡◌, ◌<◌, ◌++◌, ◌∷◌, ◌↔◌, ℕ, List, [], Bool, true, false, Option, None, Some, Ok, IsTrue, All, Contains, length}
-use Rattle.cacache_core.specs.{PathNames.{Names, IsProperName, names_of}, Paths.{joined}}
-use Rattle.cacache_disk.specs.{declared.{luck.Luck.{Luck}, node.Node.{Node, TheVariants.{Folder, File, Link}}}, Tree.{Tree, look}, Rooted.{Rooted}, Apply.{apply}}
+use Rattle.cacache_core.specs.Paths.{Names, IsProperName, names_of, joined}
+use Rattle.cacache_disk.specs.{declared.{luck.Luck.{Luck}, node.Node.{Node, TheVariants.{Folder, File, Link}}}, Tree.{Tree, look, Rooted}, Apply.{apply}}
 use Rattle.cacache_calls.specs.Runs.{Moves}
 use Rattle.cacache_walks.specs.Reading.{ReadsFolders, top_folder, files_shown}
 

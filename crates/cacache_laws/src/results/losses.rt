@@ -1,5 +1,5 @@
 //! After a loss of power: a store in memory that began with what it left.
-ghost use Rattle.cacache_laws.specs.results.{DurableCases.{InsertsStandInOne, PutsStandInOne, PutsStandLast}, FoundLinks.{HistoriesKeepLinks}, LeftLinks.{LossesLeaveLastLinks, LossesLeaveLinks}, Losses.{LeftReadMeans, LeftWriteMeans, LossesLeaveLast, LossesLeavePuts, LossesLeaveStanding}};
+ghost use Rattle.cacache_laws.specs.results.{DurableCases.{InsertsStandInOne, PutsStandInOne, PutsStandLast}, FoundLinks.{HistoriesKeepLinks, LossesLeaveLastLinks, LossesLeaveLinks}, Losses.{LeftReadMeans, LeftWriteMeans, LossesLeaveLast, LossesLeavePuts, LossesLeaveStanding}};
 
 use cacache_core::errors::Result;
 use cacache_core::integrity::{Algorithm, Integrity};
@@ -47,8 +47,8 @@ pub fn after_read_left<C: Clock, N: Names>(
     let _log = env.store.log();
 }
 
-/// Behind `write_sync` of such a store: the key leads to the bytes, or the error is excused. Other keys lead where they led,
-/// and contents stay, but at the address of the bytes, where these lie then. Where the cache's text names a folder and no
+/// After `write_sync` of such a store: the key leads to the bytes, or the error is excused. Other keys lead where they led,
+/// and contents stay, except at the address of the bytes, where these lie then. If the cache's text names a folder and no
 /// temporary file is left in it, only memory fails the write.
 pub fn after_write_left<C: Clock, N: Names>(
     env: &Env<MemStore, C, N>,

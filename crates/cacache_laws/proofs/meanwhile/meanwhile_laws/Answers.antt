@@ -1,4 +1,4 @@
-use Rattle.cacache_laws.proofs.Interleaved.{ComingRemovals.{removals_may_come}, KeptContents.{collections_keep}, KeptPuts.{puts_keep}, NamedEntries.{listings_name}}
+use Rattle.cacache_laws.proofs.Interleaved.{KeptContents.{removals_may_come, collections_keep, listings_name}, KeptPuts.{puts_keep}}
 use Rattle.cacache_laws.proofs.meanwhile.meanwhile_laws.Goals as goal
 
 pub returns : goal.returns

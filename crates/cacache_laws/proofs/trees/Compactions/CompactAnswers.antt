@@ -1,7 +1,7 @@
 -- What our own lookups find in lines, and which keys a listing looks up.
 use Rattle.std.proofs.{Common.{arith, rules, ◌≡◌, ◌⊎◌, inl, inr, ℕ, List, [], ◌∷◌, Bool, true, false, cond, not, ◌&&◌, ◌||◌, Option, Some, None, option_map, fold, map, filter_map, refl, sym, ap, subst, ◌∙◌, bytes_eq}, lemmas.{Grind.{common_steps}, Slice.Eq.{bytes_eq-Decides}, Bool.{or_parts}}}
 use Rattle.std.specs.{Prelude.{is_some, option_and_then, unwrap_or}, List.{cons_option, list_any}, Option.{option_flatten}, Str.{is_utf8}}
-use Rattle.cacache_entry.specs.{Entry.{Entry}, EntryTexts.{read_entry}, Bucket.{cut, without_cr, entry_of_parts, entry_of_piece, entries_of}, Latest.{Found, answer_of, after_entry, latest}}
+use Rattle.cacache_entry.specs.{Entry.{Entry}, EntryTexts.{read_entry}, Bucket.{cut, without_cr, entry_of_parts, entry_of_piece, entries_of, Found, answer_of, after_entry, latest}}
 use Rattle.cacache_calls.specs.{State.{Item}, Walking.{once}}
 use Rattle.cacache_laws.specs.trees.Compacting.{Decision, Line, ReadsLines, compact_text, decided, decision, decision_of, found_at, found_by, is_line, kept, line_of_piece, lines_of, signed_parts}
 use Rattle.cacache_laws.proofs.trees.Compactions.{CompactLines.{ArePieces, texts}, CompactTwice.{after, compact_texts_keep_found, next}}

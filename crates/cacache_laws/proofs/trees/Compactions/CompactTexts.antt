@@ -1,10 +1,10 @@
 -- What our own lookups and listings answer in compacted bytes.
 use Rattle.std.proofs.{Common.{rules, ◌≡◌, ℕ, suc, List, [], ◌∷◌, Bool, true, false, cond, not, ◌&&◌, ◌||◌, Option, Some, None, option_map, map, filter_map, length, refl, sym, ap, ◌∙◌, bytes_eq}, lemmas.Slice.Eq.{bytes_eq-Decides}}
 use Rattle.std.specs.{Prelude.{Ok, filter, is_some, option_and_then}, List.{cons_option, list_any}, Option.{option_flatten}}
-use Rattle.cacache_entry.specs.{Entry.{Entry}, Bucket.{without_cr, entry_of_piece, entries_of}, Latest.{Found, answer_of, latest}}
+use Rattle.cacache_entry.specs.{Entry.{Entry}, Bucket.{without_cr, entry_of_piece, entries_of, Found, answer_of, latest}}
 use Rattle.cacache_calls.specs.{State.{Item}, Walking.{once, items_of, items_in}}
 use Rattle.cacache_laws.specs.trees.Compacting.{CompactTextsAnswer, Decision, Line, compact_text, decided, decision, decision_of, found_at, found_by, is_odd, kept, lines_of, odd_lines}
-use Rattle.cacache_laws.proofs.trees.Compactions.{CompactLines.{ArePieces, pieces_are, texts}, KeptLines.{kept_decided, kept_odd, kept_once}, CompactTwice.{compact_lines, kept_are, after, in_bytes, next}, CompactAnswers.{finds_same, found_as, found_in, hidden, keys, keys_of, latest_is, ours, own_key, same_items, undecided}}
+use Rattle.cacache_laws.proofs.trees.Compactions.{CompactLines.{ArePieces, pieces_are, texts, kept_decided, kept_odd, kept_once}, CompactTwice.{compact_lines, kept_are, after, in_bytes, next}, CompactAnswers.{finds_same, found_as, found_in, hidden, keys, keys_of, latest_is, ours, own_key, same_items, undecided}}
 
 same_filter : {X Y : Type 0} (f g : X → Option Y) (xs : List X) → ((x : X) → f x ≡ g x) → filter_map f xs ≡ filter_map g xs
 same_filter f g [] same = refl

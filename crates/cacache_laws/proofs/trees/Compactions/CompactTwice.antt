@@ -3,7 +3,7 @@ use Rattle.std.proofs.{Common.{arith, rules, ◌≡◌, List, ◌++◌, Bool, tr
 use Rattle.std.specs.List.{cons_option, list_any}
 use Rattle.cacache_entry.specs.{Entry.{closing}, Bucket.{cut}}
 use Rattle.cacache_laws.specs.trees.Compacting.{CompactTextsClose, CompactTextsSettle, Line, compact_text, is_closed, kept, lines_of, text_of, CompactTextsKeepFound, Decision, Reader, ReadsLines, decided, decision, found_at, found_by, is_line, line_of_piece}
-use Rattle.cacache_laws.proofs.trees.Compactions.{CompactLines.{ArePieces, closes, lines_of_text, pieces_are, after_closing, nothing_is_none, pieces_of_text, texts}, KeptLines.{kept_pieces, kept_twice}}
+use Rattle.cacache_laws.proofs.trees.Compactions.CompactLines.{ArePieces, closes, lines_of_text, pieces_are, after_closing, nothing_is_none, pieces_of_text, texts, kept_pieces, kept_twice}
 
 -- what stays of bytes are lines
 pub kept_are : (x : List ℕ) → ArePieces (kept false (lines_of x))

@@ -1,12 +1,12 @@
 -- Two trees whose nodes differ in bytes of files alone list and read alike.
 use Rattle.std.proofs.{Common.{arith, rules, ◌≡◌, Bool, true, false, cond, List, [], ◌∷◌, Option, None, Some, length, option_map, refl, sym, ap, ap₂, subst, ◌∙◌, ◌⊎◌, inl, inr, ℕ, zero, suc, ◌++◌, Result, Ok, Err, get_or, append_assoc, bytes_eq}, lemmas.{Grind.{common_steps}, List.{append_cancel_left}}}
 use Rattle.std.specs.{Prelude.{T, ◌&&◌, filter_map, map as each, slice_index_or}, List.{cons_option}, declared.cmp.Ordering.TheVariants.{Equal}, Ordering.{is_lt}, FinMap.Entries.{below_all, where_key, is_sorted-where_key, find-where_key, same_entries}}
-use Rattle.cacache_core.specs.{PathNames.{Names, names_of}, declared.errors.Fault.{Fault, TheVariants.{IsADirectory, TooDeep}}}
+use Rattle.cacache_core.specs.{Paths.{Names, names_of}, declared.errors.Fault.{Fault, TheVariants.{IsADirectory, TooDeep}}}
 use Rattle.cacache_store.specs.declared.store.{answer.Kind.{Kind}, step.Step.TheVariants.{ReadDir}}
 use Rattle.cacache_disk.specs.{declared.{node.Node.{Node, TheVariants.{Folder, File, Link}}, luck.Luck.TheVariants.{Plain}}, Tree.{Tree, look, names_cmp, same_path, listing, child_of, is_child, kind_of}, LedTo.{and_then, or_fault, through, way_fault, place, standing, where_there, where_folder, on_link, followed, leads, bytes_there, file_at, folder}, Apply.{apply, unless}}
 use Rattle.cacache_disk.proofs.{Maps.{total, only}, FoundNodes.{and_then_ok, place_ok, standing_ok}}
 use Rattle.cacache_laws.{proofs.trees.Children.{of_children, where_child, child_path, folder_found}, specs.trees.Collecting.{LinksLeadOut}}
-use Rattle.cacache_value.{specs.Kinds.{Elsewhere, path_kind, IsFor}, proofs.{KindsApart.{inner_used, kind-below}, FoundPaths.{of_names}}}
+use Rattle.cacache_value.{specs.Kinds.{Elsewhere, path_kind, IsFor}, proofs.{PathKinds.{inner_used, kind-below}, Applying.{of_names}}}
 use Rattle.std.specs.FinMap as map
 use Rattle.cacache_store.specs.declared.store.answer.Answer.TheVariants as answers
 

@@ -1,16 +1,16 @@
 -- Compactions of trees, one after another, and what is found after them.
 -- Lookups, reads by key and listings answer after a compaction what they may answer before it.
 use Rattle.std.proofs.{lemmas.Grind.{common_steps}, Common.{rules, ◌≡◌, ◌⊎◌, inl, inr, ℕ, List, [], ◌∷◌, ◌++◌, Bool, Option, None, Some, refl, sym, ap, subst, ◌∙◌, Ok, append_assoc, arith}}
+use Rattle.cacache_laws.specs.trees.{Collecting.{ReadsAsBefore, LinksLeadOut}, Compacted.{KeepsFound, IsCompacted, IsTempFolder, IsLeftOver, Compacted, CutShort, FindsFormed}, Compacting.{compact_text}}
+use Rattle.cacache_laws.proofs.trees.{Compactions.{CompactTexts.{compact_texts_answer}, CompactTwice.{compact_again}, LeanReads.{Clear, SameOrLean, Sees, clear_area, dir_alike, file_alike, sees_clear}}, Twins.{Agreeing.{said}, Follows.{Alike, ReadsAlike, reads_as_before}, Twice.{address_is}}, Stepping.{read_answer}}
+use Rattle.cacache_calls.specs.{State.{Site}, Steps.{content_path}}
 use Rattle.sha1.specs.Sha1.{sha1}
-use Rattle.cacache_core.specs.{PathNames.{Names, names_of, home_of}, Paths.{bucket_names_of, content_names, temp_area, joined, content_area, index_area}, declared.integrity.digest.Hash.{Hash}, Integrity.{IsIntegrity}}
+use Rattle.cacache_core.specs.{Paths.{Names, names_of, home_of, bucket_names_of, content_names, temp_area, joined, content_area, index_area}, declared.integrity.digest.Hash.{Hash}, Integrity.{IsIntegrity}}
 use Rattle.cacache_core.proofs.{JoinedNames.{joined_texts_name}, ProperNames.{names_are_proper}}
 use Rattle.cacache_disk.specs.{declared.{node.Node.{Node, TheVariants.{Folder, File}}, luck.Luck.TheVariants.{Plain}}, Tree.{Tree, look}, Apply.{apply}}
-use Rattle.cacache_entry.{specs.Latest.{latest}, proofs.Lines.{empty_holds_nothing}}
-use Rattle.cacache_value.{specs.{Acts.{list_of}, Kinds.{Content, Bucket, Temporary, path_kind, Elsewhere}, Value.{blob_in, bucket_in}}, proofs.KindsApart.{kind-below}}
-use Rattle.cacache_laws.specs.trees.{Compacted.{IsCompacted, IsTempFolder, IsLeftOver, Compacted, CutShort, CompactionsKeep, CompactionsAnswer, FindsFormed}, Compacting.{compact_text}, Collecting.{LinksLeadOut}}
-use Rattle.cacache_laws.proofs.trees.{Compactions.{CompactTexts.{compact_texts_answer}, CompactTwice.{compact_again}, LeanReads.{Clear, SameOrLean, Sees, clear_area, dir_alike, file_alike, sees_clear}}, Twins.{Agreeing.{said}, Follows.{Alike, ReadsAlike, reads_as_before}, Twice.{address_is}}, Within.{read_answer}}
+use Rattle.cacache_entry.{specs.Bucket.{latest}, proofs.Lookups.{empty_holds_nothing}}
+use Rattle.cacache_value.{specs.{Acts.{list_of}, Kinds.{Content, Bucket, Temporary, path_kind, Elsewhere}, Value.{blob_in, bucket_in}}, proofs.PathKinds.{kind-below}}
 use Rattle.cacache_store.specs.declared.store.step.Step.TheVariants.{ReadAll, ReadDir}
-use Rattle.cacache_calls.specs.StepPaths.{content_path}
 
 -- ---- one node
 
@@ -86,7 +86,8 @@ key_at durable key home q old new (inr (inr (inr left))) = search (rules, empty_
 content_at : (durable : Bool) (home q : Names) (old new : Option Node) → path_kind (Some home) q ≡ Content → EndsUp durable home q old new → blob_in new ≡ blob_in old
 content_at durable home q old new k h = grind (arith, kind-below)
 
-pub compactions_keep : CompactionsKeep
+-- a compaction keeps what is found, also if it is cut short
+pub compactions_keep : (durable : Bool) (home : Names) (t new : Tree) → CutShort durable home t new → KeepsFound home t new
 compactions_keep durable home t new is = record {
   keys = λ key. let q = home ++ bucket_names_of (sha1 key) in key_at durable key home (home ++ bucket_names_of (sha1 key)) (look t q) (look new q) (is q);
   contents = λ h. let q = home ++ content_names h in content_at durable home (home ++ content_names h) (look t q) (look new q) (kind-below home (content_names h)) (is q);
@@ -142,5 +143,7 @@ module _ (durable : Bool) (cache : List ℕ) (home : Names) (t new : Tree) (at_h
   alike : ReadsAlike cache home t new
   alike = record { folders = folders_alike; files = reads_alike; contents = λ key f finds. content_alike f.integrity (formed key f finds) }
 
-pub compactions_answer : CompactionsAnswer
+-- if links lead out of the cache and found entries have integrities, calls answer as before
+pub compactions_answer : (durable : Bool) (site : Site) (home : Names) (t new : Tree) → home_of site.cache ≡ Some home → LinksLeadOut home t
+    → FindsFormed site.cache t → CutShort durable home t new → ReadsAsBefore site t new
 compactions_answer durable site home t new at_home out formed is = reads_as_before site home t new at_home (alike durable site.cache home t new at_home out formed is)

@@ -2,19 +2,19 @@
 use Rattle.std.proofs.{lemmas.{Grind.{common_steps}, List.Elements.{All-head}}, Common.{rules, ◌≡◌, ◌⊎◌, inl, inr, ℕ, true, false, List, [], ◌∷◌, Option, None, Some, Result, Ok, refl, sym, ap, subst, ◌∙◌, arith}}
 use Rattle.std.specs.List.{AllByRecursion}
 use Rattle.sha1.specs.Sha1.{sha1}
-use Rattle.cacache_core.specs.{declared.{errors.Fault.{Fault}, integrity.digest.Hash.{Hash}}, Integrity.{IsHash, IsIntegrity, address}, PathNames.{Names, home_of}}
+use Rattle.cacache_core.specs.{declared.{errors.Fault.{Fault}, integrity.digest.Hash.{Hash}}, Integrity.{IsHash, IsIntegrity, address}, Paths.{Names, home_of}}
 use Rattle.cacache_store.specs.declared.store.log.LogItem.{LogItem}
 use Rattle.cacache_store.specs.declared.store.step.Step.TheVariants as steps
-use Rattle.cacache_disk.specs.{declared.luck.Luck.TheVariants.{Plain}, Apply.{apply}, Rooted.{Rooted}, Tree.{Tree}, memory.Replay.{tree_of}}
-use Rattle.cacache_entry.specs.Latest.{Found, latest}
-use Rattle.cacache_calls.specs.{declared.{command.{Command.{Command}, Delete.{Delete}, Insert.{Insert}, Put.{Put}}, reply.Reply.{Reply}}, Effects.{effects_of}, Inserting.{deletion, insertion}, Replies.{bucket_shown, lookup}, Runs.{Goes, Moves, Runs}, Sound.{MayBegin}, State.{Insertion, Site}, StepPaths.{bucket_path, content_path}, Storing.{put_commit}, Table.{opening}}
+use Rattle.cacache_disk.specs.{declared.luck.Luck.TheVariants.{Plain}, Apply.{apply}, Tree.{Rooted, Tree}, Replay.{tree_of}}
+use Rattle.cacache_entry.specs.Bucket.{Found, latest}
+use Rattle.cacache_calls.specs.{declared.{command.{Command.{Command}, Delete.{Delete}, Insert.{Insert}, Put.{Put}}, reply.Reply.{Reply}}, Effects.{effects_of}, Inserting.{deletion, insertion}, Replies.{bucket_shown, lookup}, Runs.{Goes, Moves, Runs}, Sound.{MayBegin}, State.{Insertion, Site}, Steps.{bucket_path, content_path}, Storing.{put_commit}, Table.{opening}}
 use Rattle.cacache_calls.proofs.{Effects.{deletes_send, inserts_send, puts_commit}, Sound.{begins_sound}}
 use Rattle.cacache_calls.specs.declared.command.Command.TheVariants as commands
 use Rattle.cacache_value.specs.{Acts.{Drop, act_at, list_of}, Placed.{Placed}, Shows.{ShowsBucket}, Value.{Value, value_of_tree}}
 use Rattle.cacache_value.proofs.{Shows.{trees_show}, Traces.{traces_act}}
 use Rattle.cacache_history.specs.{Commits.{CommitsAs, Deed, DropsAmong, FoundFirst, InsertionAdds, deeds, deeds_of_act, does}, History.{Turn, turn_of}, Lookups.{SparesKey}, ReadingCalls.{IsReading}, Setup.{Setup, call_site, is_outside, may_export}, Turns.{made_in}}
 use Rattle.cacache_history.proofs.{Contents.{Carrying.{own_bytes, own_of, opening_carries}, Deeds.{Realizes, turns_realize}, Removals.{hash_removed, key_removed}}, Histories.{ReadingCalls.{readings_do_nothing}, ShownTurns.{bucket_below, content_below}}}
-use Rattle.cacache_laws.specs.{Beside.{IsOther, KeepsBeside, ShareAddress, own_integrity}, Caches.{Called, HasKey, lies_under, setup_at}, Keeping.{KeepsOthers, StaysKnown, found_under}, Sequence.{Alike, AreAnswered, after_deeds, plain_moves, tree_on, turns_on}, Standing.{IsStanding}, trees.Later.{IsApartFrom, SparesContent, written, calls}}
+use Rattle.cacache_laws.specs.{Beside.{IsOther, KeepsBeside, ShareAddress, own_integrity, KeepsOthers, StaysKnown, found_under}, Caches.{Called, HasKey, lies_under, setup_at}, Sequence.{Alike, AreAnswered, after_deeds, plain_moves, tree_on, turns_on}, Standing.{IsStanding}, trees.Later.{IsApartFrom, SparesContent, written, calls}}
 use Rattle.cacache_laws.proofs.{Calls.{InParts.{logs_lead, run_goes}, Sequence.{moves_after, moves_follow, turns_made}}, Exports.ExportEffects.{nothing_done}, Putting.{Puts.{put_keeps}, Deeds.{adds_keep, stays_known}, StandingPuts.{Went, insertion_adds, nowhere, put_commits, went}}, Readings.Standing.{found_shown}, Removing.Removed.{cut_buckets, cut_contents, removed_at, uncut_buckets, uncut_contents}}
 
 -- ---- a call on a store that stands

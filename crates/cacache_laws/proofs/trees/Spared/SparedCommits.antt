@@ -1,11 +1,11 @@
 -- What a writer's commit leaves of a key that it spares, on a store that stands.
 use Rattle.std.proofs.Common.{rules, ◌≡◌, ℕ, List, [], ◌∷◌, ◌++◌, Some, refl, sym, ap, subst, ◌∙◌, append-nil}
-use Rattle.cacache_core.specs.{declared.integrity.digest.Hash.{Hash}, PathNames.{home_of}}
+use Rattle.cacache_core.specs.{declared.integrity.digest.Hash.{Hash}, Paths.{home_of}}
 use Rattle.cacache_store.specs.declared.store.answer.Answer.TheVariants as answers
 use Rattle.cacache_store.specs.declared.store.log.LogItem.{LogItem}
-use Rattle.cacache_disk.specs.{Apply.{made_temp}, Rooted.{Rooted}, Tree.{Tree}, memory.Replay.{tree_of}}
+use Rattle.cacache_disk.specs.{Apply.{made_temp}, Tree.{Rooted, Tree}, Replay.{tree_of}}
 use Rattle.cacache_calls.specs.declared.command.Command.TheVariants as commands
-use Rattle.cacache_calls.specs.{declared.{command.Put.{Put}, reply.Reply.{Reply}}, Effects.{effects_of}, Runs.{Moves, Runs}, State.{Site, State}, StepPaths.{temp_folder, temp_path}, Storing.{persist, put_commit}, Table.{opening}}
+use Rattle.cacache_calls.specs.{declared.{command.Put.{Put}, reply.Reply.{Reply}}, Effects.{effects_of}, Runs.{Moves, Runs}, State.{Site, State}, Steps.{temp_folder, temp_path}, Storing.{persist, put_commit}, Table.{opening}}
 use Rattle.cacache_calls.proofs.Effects.{puts_commit}
 use Rattle.cacache_value.{specs.{Acts.{PutBytes}, Placed.{Placed}, Value.{value_of_tree}}, proofs.Traces.{traces_act}}
 use Rattle.cacache_history.specs.{Commits.{CommitsAs, Deed, deeds}, History.{Turn}, Setup.{Setup, call_site}, Turns.{made_in}}

@@ -1,17 +1,17 @@
 -- Where a key leads after later calls that spare it, on a store that stands.
 use Rattle.std.proofs.Common.{rules, ◌≡◌, inl, inr, ℕ, List, [], ◌∷◌, Option, None, Some, Result, arith, filter_map, refl, sym, ap, subst, ◌∙◌}
 use Rattle.std.specs.{Prelude.{Contains}, List.{cons_option}}
-use Rattle.cacache_core.specs.{declared.{errors.Error.{Error, TheVariants.{OutOfMemory}}, integrity.digest.Hash.{Hash}}, PathNames.{home_of}}
+use Rattle.cacache_core.specs.{declared.{errors.Error.{Error, TheVariants.{OutOfMemory}}, integrity.digest.Hash.{Hash}}, Paths.{home_of}}
 use Rattle.cacache_store.specs.declared.store.{log.LogItem.{LogItem}, plain.PlainTemp.{PlainTemp}}
 use Rattle.cacache_store.specs.declared.store.step.Step.TheVariants as steps
-use Rattle.cacache_disk.{specs.{declared.luck.Luck.TheVariants.{Plain}, Rooted.{Rooted}, memory.Replay.{IsLog, tree_of}}, proofs.KeptFolders.{steps_keep_rooted}}
-use Rattle.cacache_calls.{specs.{Inserting.{refused_cause}, Runs.{Moves}, StepPaths.{temp_path}, Table.{opening}}, proofs.Going.{goes_lost}}
+use Rattle.cacache_disk.{specs.{declared.luck.Luck.TheVariants.{Plain}, Tree.{Rooted}, Replay.{IsLog, tree_of}}, proofs.KeptFolders.{steps_keep_rooted}}
+use Rattle.cacache_calls.{specs.{Inserting.{refused_cause}, Runs.{Moves}, Steps.{temp_path}, Table.{opening}}, proofs.Going.{goes_lost}}
 use Rattle.cacache_calls.specs.declared.command.Command.TheVariants as commands
 use Rattle.cacache_calls.specs.declared.reply.Reply.TheVariants as replies
 use Rattle.cacache_value.{specs.{Placed.{Placed}, Value.{value_of_tree}}, proofs.Traces.{steps_keep_placed}}
 use Rattle.cacache_history.specs.Setup.{call_site}
-use Rattle.cacache_laws.specs.{Caches.{Called, HasKey, setup_at}, GivenUp.{GivesUpTemp, drop_temp}, Keeping.{found_under}, OpenWriters.{OpensWriter}, Sequence.{Alike, after_deeds}, Standing.{IsStanding}, trees.Later.{AllSpare, Later, ReadsOf, Spares, SparedKeysStay, StaysRead, TombstonesFit, calls, commits, gives_up, looks, opens, written}}
-use Rattle.cacache_laws.proofs.{Calls.{InParts.{logs_lead}, Logs.{some_same}}, Putting.{Forms.{bare_written}, Deeds.{stays_known}, OpenWriters.{put_nothing, opening_made}}, Readings.{GivenReads.{same_stays_known}, Standing.{standing_reads}}, Spares.Unused.{still_alike, temp_for}, trees.{Members.{contains_member, member_contains}, Spared.{SparedCalls.{Left, call_left, idle, known_left, stands}, SparedCommits.{commit_left}}}}
+use Rattle.cacache_laws.specs.{Caches.{Called, HasKey, setup_at}, OpenWriters.{GivesUpTemp, drop_temp, OpensWriter}, Beside.{found_under}, Sequence.{Alike, after_deeds}, Standing.{IsStanding}, trees.Later.{AllSpare, Later, ReadsOf, Spares, SparedKeysStay, StaysRead, TombstonesFit, calls, commits, gives_up, looks, opens, written}}
+use Rattle.cacache_laws.proofs.{Calls.{InParts.{logs_lead}, Replays.{some_same}}, Putting.{Stored.{bare_written}, Deeds.{stays_known}, OpenWriters.{put_nothing, opening_made}}, Readings.{GivenReads.{same_stays_known}, Standing.{standing_reads}}, Spares.Unused.{still_alike, temp_for}, trees.{Members.{contains_member, member_contains}, Spared.{SparedCalls.{Left, call_left, idle, known_left, stands}, SparedCommits.{commit_left}}}}
 
 -- ---- the tree as it was
 

@@ -1,15 +1,15 @@
 -- If what is apart from the cache stays, links of contents lead where they led.
 use Rattle.std.proofs.{lemmas.{Grind.{common_steps}, List.Elements.{All-head}}, Common.{◌≡◌, ◌⊎◌, inl, inr, ℕ, zero, suc, List, [], ◌∷◌, ◌++◌, Option, Some, None, Bool, true, false, cond, Result, Ok, Err, refl, sym, ap, subst, ◌∙◌, append_assoc, bytes_eq, arith}}
-use Rattle.cacache_core.specs.{declared.{errors.Fault.{Fault, TheVariants.{IsADirectory, NotFound, TooDeep}}, integrity.digest.Hash.{Hash}}, Integrity.{IsHash, IsIntegrity}, PathNames.{Names, names_of, home_of}, Paths.{content_names}}
+use Rattle.cacache_core.specs.{declared.{errors.Fault.{Fault, TheVariants.{IsADirectory, NotFound, TooDeep}}, integrity.digest.Hash.{Hash}}, Integrity.{IsHash, IsIntegrity}, Paths.{Names, names_of, home_of, content_names}}
 use Rattle.cacache_store.specs.{declared.store.{step.Step.TheVariants.{Exists}, answer.Answer.TheVariants.{There}}, Plain.{PlainAnswer}}
-use Rattle.cacache_disk.specs.{declared.{luck.Luck.TheVariants.{Plain}, node.Node.{Node, TheVariants.{Folder, File, Link}}}, Tree.{Tree, look}, LedTo.{and_then, or_fault, way_fault, place, standing, where_there, on_link, followed, leads, found, bytes_there}, Apply.{apply, is_there}, Rooted.{Rooted}}
+use Rattle.cacache_disk.specs.{declared.{luck.Luck.TheVariants.{Plain}, node.Node.{Node, TheVariants.{Folder, File, Link}}}, Tree.{Tree, look, Rooted}, LedTo.{and_then, or_fault, way_fault, place, standing, where_there, on_link, followed, leads, found, bytes_there}, Apply.{apply, is_there}}
 use Rattle.cacache_disk.proofs.{FoundNodes.{and_then_ok, or_fault_none, there_at}, Standing.{way_clear}}
-use Rattle.cacache_calls.specs.StepPaths.{content_path}
+use Rattle.cacache_calls.specs.Steps.{content_path}
 use Rattle.cacache_value.specs.{Kinds.{PathKind, Content, Elsewhere, Way, NamesBelow, kind_beside, path_kind, IsFor}, Placed.{MayStand, Placed}, Shows.{ShowsThere, link_end, blob_bytes, blob_there}, Value.{Blob, InFile, AtLink, blob_in}}
-use Rattle.cacache_value.proofs.{FoundPaths.{of_names}, KindsApart.{inner_used, kind-below}, Shows.{trees_show}}
+use Rattle.cacache_value.proofs.{Applying.{of_names}, PathKinds.{inner_used, kind-below}, Shows.{trees_show}}
 use Rattle.cacache_history.proofs.Histories.ShownTurns.{content_below}
 use Rattle.cacache_laws.specs.{Caches.{setup_at}, trees.{Contents.{content_in}, Housed.{Still}, Verifying.{is_good, is_met, says_yes}}}
-use Rattle.cacache_laws.proofs.trees.Within.{file_there, something_there, through_none}
+use Rattle.cacache_laws.proofs.trees.Stepping.{file_there, something_there, through_none}
 
 -- ---- above a path that is apart from the cache
 

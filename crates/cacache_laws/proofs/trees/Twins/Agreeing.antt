@@ -1,9 +1,9 @@
 -- Reads on two trees that agree on all but contents.
 use Rattle.std.proofs.{Common.{arith, rules, ◌≡◌, ◌⊎◌, inl, inr, ℕ, List, [], ◌∷◌, ◌++◌, Some, Bool, true, false, cond, Result, Ok, Err, refl, sym, ap, ◌∙◌, bytes_eq}, lemmas.Grind.{common_steps}}
-use Rattle.cacache_core.specs.{declared.errors.Fault.{Fault, TheVariants.{IsADirectory}}, PathNames.{Names, names_of}}
+use Rattle.cacache_core.specs.{declared.errors.Fault.{Fault, TheVariants.{IsADirectory}}, Paths.{Names, names_of}}
 use Rattle.cacache_store.specs.{declared.store.{step.Step.TheVariants.{ReadAll}, answer.Answer.TheVariants.{Bytes, Failed}}, Plain.{PlainAnswer}}
 use Rattle.cacache_disk.specs.{declared.luck.Luck.TheVariants.{Plain}, Tree.{Tree, look}, LedTo.{file_at}, Apply.{apply, unless}}
-use Rattle.cacache_value.{specs.Kinds.{PathKind, Content, Way, Elsewhere, kind_beside, path_kind, is_used}, proofs.KindsApart.{above, inner_used}}
+use Rattle.cacache_value.{specs.Kinds.{PathKind, Content, Way, Elsewhere, kind_beside, path_kind, is_used}, proofs.PathKinds.{above, inner_used}}
 use Rattle.cacache_laws.{specs.trees.Collecting.{LinksLeadOut}, proofs.trees.Compactions.LeanReads.{NoneLean, Sees, file_alike}}
 
 -- ---- no content lies above what the cache uses, nor above what is apart from it

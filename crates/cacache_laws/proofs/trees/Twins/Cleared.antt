@@ -2,12 +2,12 @@
 -- A removal that is made on two logs.
 use Rattle.std.proofs.{lemmas.Grind.{common_steps}, Common.{rules, ◌≡◌, ◌⊎◌, inl, inr, ◌-◌, ℕ, suc, Bool, true, false, cond, nat_le, List, [], ◌∷◌, ◌++◌, None, Some, Result, Ok, Err, length, refl, sym, ap, subst, ◌∙◌, arith, append-nil}}
 use Rattle.std.specs.Prelude.{bytes_eq}
-use Rattle.cacache_core.specs.{declared.errors.{Fault.{Fault}, Error.TheVariants.{IoError}}, Paths.{join, content_area, index_area, temp_area}, PathNames.{Names, names_of, home_of}}
+use Rattle.cacache_core.specs.{declared.errors.{Fault.{Fault}, Error.TheVariants.{IoError}}, Paths.{join, content_area, index_area, temp_area, Names, names_of, home_of}}
 use Rattle.cacache_store.specs.declared.store.{answer.{Kind.{Kind}, Name.{Name}}, log.LogItem.{LogItem}}
-use Rattle.cacache_disk.specs.{declared.{luck.Luck.TheVariants.{Plain}, node.Node.{Node, TheVariants.{Folder, File, Link}}}, Tree.{Tree, look, listing, kind_of}, LedTo.{folder}, Rooted.{Rooted}, Apply.{apply}, memory.Replay.{tree_of}}
-use Rattle.cacache_calls.specs.{declared.{reply.Reply.{Reply, TheVariants.{Listed, Done, Refused}}, visit.{Task.{Task}, Visit.TheVariants.{Enter, RemoveFile}}, command.Command.{Command}}, Common.{fails}, State.{over, Walk, Site}, Walking.{most, failed, give, miss, walk_on, walk_ends, task_for_name, tasks_of, too_many, walk}, Runs.{Moves, Runs}, StepPaths.{content_path}, Table.{opening}}
-use Rattle.cacache_value.{specs.Kinds.{Content, Way, Stray, path_kind}, proofs.KindsApart.{kind-below}}
-use Rattle.cacache_laws.specs.{Sequence.{tree_on}, trees.{Walks.{is_leaf}, Idle.{BreaksOff, LacksIdle, Removed, StillLacksIdle}}}
+use Rattle.cacache_disk.specs.{declared.{luck.Luck.TheVariants.{Plain}, node.Node.{Node, TheVariants.{Folder, File, Link}}}, Tree.{Tree, look, listing, kind_of, Rooted}, LedTo.{folder}, Apply.{apply}, Replay.{tree_of}}
+use Rattle.cacache_calls.specs.{declared.{reply.Reply.{Reply, TheVariants.{Listed, Done, Refused}}, visit.{Task.{Task}, Visit.TheVariants.{Enter, RemoveFile}}, command.Command.{Command}}, Common.{fails}, State.{over, Walk, Site}, Walking.{most, failed, give, miss, walk_on, walk_ends, task_for_name, tasks_of, too_many, walk}, Runs.{Moves, Runs}, Steps.{content_path}, Table.{opening}}
+use Rattle.cacache_value.{specs.Kinds.{Content, Way, Stray, path_kind}, proofs.PathKinds.{kind-below}}
+use Rattle.cacache_laws.specs.{Sequence.{tree_on}, trees.{Walks.{is_leaf}, Idle.{BreaksOff, LacksIdle, Removed}}}
 use Rattle.cacache_laws.proofs.{Removing.Sheds.{Shed, ShedAll, among, sheds_more, lists_folder, told_still, long_names}, trees.{Children.{child_path, folder_found, folder_there, proper_child, same_listing}, Covering.{home_named, named_on}, Twins.{Twice.{Follows, lacks_still, same_node}, Fully.{lacks_at, Both, key_goes, last_removed}}, Stepping.{MadeOn, goes, over_stays, said_over, Whole}, Swept.{Swept, alive, never_too_many, visited}, Logged.{log_rooted}}, Calls.InParts.{logs_lead}}
 use Rattle.cacache_history.proofs.{Listings.ToldFolders.{Told, AreDistinct, listing_told, listing_distinct}, Each.{Each}}
 use Rattle.cacache_core.specs.declared.errors.Fault.TheVariants as faults
@@ -203,7 +203,10 @@ module _ (cache : List ℕ) (home : Names) (full rest lean left : List LogItem) 
       (cleared two.reply two.whole cache (tree_of lean) (log_rooted lean) (run_of cache commands.Clear lean left two))
   removed command one two = absurd (let wrong : false ≡ true = one.removal in cc)
 
-pub still_lacks_idle : StillLacksIdle
+-- a tree still lacks idle contents alone after a removal that is made on both, whatever each of the two answers
+pub still_lacks_idle : (cache : List ℕ) (home : Names) (command : Command) (full rest lean left : List LogItem) → home_of cache ≡ Some home
+    → Removed cache command full rest → Removed cache command lean left → LacksIdle cache home (tree_of full) (tree_of lean)
+    → LacksIdle cache home (tree_of rest) (tree_of left)
 unfolding LacksAfter
 still_lacks_idle cache home command full rest lean left is one two l =
     lacks_at cache home (tree_of rest) (tree_of left) (tree_on (tree_of full) one.called.ran.0) (tree_on (tree_of lean) two.called.ran.0) (leads_to cache command full rest one) (leads_to cache command lean left two)

@@ -3,14 +3,14 @@
 use Rattle.std.proofs.{lemmas.{Grind.{common_steps}, List.Elements.{All-cons, All-head, All-nil, All-tail}, Slice.Eq.{bytes_eq-Decides}}, Common.{rules, ◌≡◌, ◌⊎◌, inl, inr, ℕ, ◌+◌, ◌-◌, List, [], ◌∷◌, ◌++◌, Bool, true, false, cond, nat_le, nat_lt, Option, Some, None, Result, Ok, Err, length, take, refl, sym, ap, subst, ◌∙◌, arith, append-nil, append_assoc, zero, suc, bytes_eq, ap₂}}
 use Rattle.hex.specs.Hex.{encode_lower}
 use Rattle.sha1.specs.Sha1.{sha1}
-use Rattle.cacache_core.specs.{declared.errors.Fault.{Fault, TheVariants.{NotFound, TooDeep, IsADirectory, Device}}, Meeting.{meets}, PathNames.{Names, names_of, home_of, IsProperName}, Paths.{join, bucket_names, cut_digits, index_area, content_area, temp_area}}
+use Rattle.cacache_core.specs.{declared.errors.Fault.{Fault, TheVariants.{NotFound, TooDeep, IsADirectory, Device}}, Matching.{meets}, Paths.{Names, names_of, home_of, IsProperName, join, bucket_names, cut_digits, index_area, content_area, temp_area}}
 use Rattle.cacache_core.proofs.{JoinedNames.{joined_texts_name}, PathLemmas.{keys_have_digests}, ProperNames.{names_are_proper, proper_bucket_folder}}
-use Rattle.cacache_store.specs.{declared.store.{answer.{Kind.{Kind}, Name.{Name}}, step.Step.TheVariants.{ReadAll, ReadDir}}, Fits.{Fits, AreProperNames}, Plain.{PlainStep, PlainAnswer}}
+use Rattle.cacache_store.specs.{declared.store.{answer.{Kind.{Kind}, Name.{Name}}, step.Step.TheVariants.{ReadAll, ReadDir}}, Plain.{Fits, AreProperNames, PlainStep, PlainAnswer}}
 use Rattle.cacache_disk.specs.{declared.luck.Luck.TheVariants.{Plain}, Tree.{Tree}, LedTo.{file_at}, Apply.{apply}}
-use Rattle.cacache_entry.specs.Latest.{Found}
-use Rattle.cacache_calls.specs.{declared.{carried.{Aim.{Aim}, Lookup.{Lookup}}, reply.Reply.{Reply}, visit.{Task.{Task, TheVariants.{Make, Stumble}}, Visit.{Visit, TheVariants.{Enter, ReadBucket}}}}, Looking.{found_in, found_for, found_content}, Runs.{Moves, Runs}, State.{Item, Site, State, Walk, looking, over, reading, walking}, StepPaths.{bucket_path, content_path}, Table.{after, opening, wants}, Walking.{EachVisit, after_visit, failed, give, items_in, most, task_for_name, tasks_of, too_many, visit_step, walk_on}}
-use Rattle.cacache_laws.specs.trees.{Answers.{AnsweredBy}, Collecting.{ReadsAsBefore}, Compacting.{compact_text}, Idle.{Finds, IdleIsUnseen, LacksIdle}}
-use Rattle.cacache_laws.proofs.trees.{Twins.{Agreeing.{said}, Twice.{content_read}}, Compactions.{CompactTexts.{compact_texts_answer}, LeanReads.{Clear, InArea, NoneLean, SameOrLean, Sees, clear_area, dir_alike, file_alike, sees_clear}}, Covering.{named_on}, Within.{read_answer}, Listing.{lists}}
+use Rattle.cacache_entry.specs.Bucket.{Found}
+use Rattle.cacache_calls.specs.{declared.{carried.{Aim.{Aim}, Lookup.{Lookup}}, reply.Reply.{Reply}, visit.{Task.{Task, TheVariants.{Make, Stumble}}, Visit.{Visit, TheVariants.{Enter, ReadBucket}}}}, Reading.{found_in, found_for, found_content}, Runs.{Moves, Runs}, State.{Item, Site, State, Walk, looking, over, reading, walking}, Steps.{bucket_path, content_path}, Table.{after, opening, wants}, Walking.{EachVisit, after_visit, failed, give, items_in, most, task_for_name, tasks_of, too_many, visit_step, walk_on}}
+use Rattle.cacache_laws.specs.trees.{Answers.{AnsweredBy}, Collecting.{ReadsAsBefore}, Compacting.{compact_text}, Idle.{Finds, LacksIdle}}
+use Rattle.cacache_laws.proofs.trees.{Twins.{Agreeing.{said}, Twice.{content_read}}, Compactions.{CompactTexts.{compact_texts_answer}, LeanReads.{Clear, InArea, NoneLean, SameOrLean, Sees, clear_area, dir_alike, file_alike, sees_clear}}, Covering.{named_on}, Stepping.{read_answer}, Listing.{lists}}
 use Rattle.cacache_value.specs.Kinds.{PathKind, Bucket, Content, Elsewhere, Stray, Temporary, kind_below, kind_beside, kind_in_area}
 use Rattle.cacache_store.specs.declared.store.answer.Answer.TheVariants as answers
 use Rattle.cacache_store.specs.declared.store.answer.Kind.TheVariants as kinds
@@ -270,5 +270,7 @@ module _ (cache : List ℕ) (home : Names) (full lean : Tree) (is : home_of cach
   alike : ReadsAlike cache home full lean
   alike = record { folders = folders_alike; files = files_alike; contents = content_read cache home full lean is l }
 
-pub idle_is_unseen : IdleIsUnseen
+-- each lookup and each verified read by key answers on the lean tree what it may answer on the full
+pub idle_is_unseen : (site : Site) (home : Names) (full lean : Tree) → home_of site.cache ≡ Some home → LacksIdle site.cache home full lean
+    → ReadsAsBefore site full lean
 idle_is_unseen site home full lean is l = reads_as_before site home full lean is (alike site.cache home full lean is l)

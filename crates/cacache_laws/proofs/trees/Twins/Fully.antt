@@ -1,11 +1,11 @@
 -- A content, or a key with its content, that is removed from both trees.
 use Rattle.std.proofs.Common.{◌≡◌, ℕ, List, Option, Some, None, refl, sym, ap, subst, ◌∙◌}
-use Rattle.cacache_core.specs.{declared.errors.Fault.TheVariants.{NotFound}, PathNames.{Names, home_of}}
+use Rattle.cacache_core.specs.{declared.errors.Fault.TheVariants.{NotFound}, Paths.{Names, home_of}}
 use Rattle.cacache_store.specs.{declared.store.{step.Step.TheVariants.{ReadAll, RemoveFile}, answer.Answer.TheVariants.{Bytes}}, Plain.{PlainStep, PlainAnswer}}
 use Rattle.cacache_store.specs.declared.store.answer.Answer.TheVariants as answers
-use Rattle.cacache_disk.{specs.{declared.luck.Luck.TheVariants.{Plain}, Tree.{Tree}, Rooted.{Rooted}, Apply.{apply}}, proofs.KeptFolders.{steps_keep_rooted}}
-use Rattle.cacache_entry.specs.Latest.{Found}
-use Rattle.cacache_calls.specs.{declared.{reply.Reply.{Reply, TheVariants.{Done}}, carried.Lookup.{Lookup}}, State.{State, doing, looking, over, remove}, StepPaths.{bucket_path, content_path}, Looking.{found_in}, Removing.{remove_bucket, remove_content, remove_found}, Table.{wants, after}}
+use Rattle.cacache_disk.{specs.{declared.luck.Luck.TheVariants.{Plain}, Tree.{Tree, Rooted}, Apply.{apply}}, proofs.KeptFolders.{steps_keep_rooted}}
+use Rattle.cacache_entry.specs.Bucket.{Found}
+use Rattle.cacache_calls.specs.{declared.{reply.Reply.{Reply, TheVariants.{Done}}, carried.Lookup.{Lookup}}, State.{State, doing, looking, over, remove}, Steps.{bucket_path, content_path}, Reading.{found_in}, Removing.{remove_bucket, remove_content, remove_found}, Table.{wants, after}}
 use Rattle.cacache_calls.specs.declared.carried.Aim.TheVariants as aims
 use Rattle.cacache_laws.specs.{Sequence.{tree_on}, trees.Idle.{Finds, LacksIdle}}
 use Rattle.cacache_laws.proofs.{Readings.ReadAnswers.{reading_keeps}, trees.{Twins.Twice.{bucket_read, from_both, from_full, from_none, removed_twice}, Stepping.{MadeOn, Whole, goes, stays, leaves}}}

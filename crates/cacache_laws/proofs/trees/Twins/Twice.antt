@@ -2,16 +2,15 @@
 -- A file or link that is removed from both trees, one of which lacks idle contents.
 use Rattle.std.proofs.{lemmas.{Grind.{common_steps}, List.Elements.{All-head}}, Common.{rules, ◌≡◌, ◌⊎◌, inl, inr, ℕ, List, [], ◌∷◌, ◌++◌, Option, Some, None, Bool, true, false, cond, Ok, refl, sym, ap, ◌∙◌, arith, Result, Err, subst}}
 use Rattle.sha1.specs.Sha1.{sha1}
-use Rattle.cacache_core.specs.{declared.{errors.Fault.{TheVariants.{NotFound}, Fault}, integrity.digest.Hash.{Hash}}, Integrity.{IsHash, IsIntegrity, address}, PathNames.{Names, names_of, home_of}, Paths.{joined, content_names, bucket_names}, Meeting.{meets}}
+use Rattle.cacache_core.specs.{declared.{errors.Fault.{TheVariants.{NotFound}, Fault}, integrity.digest.Hash.{Hash}}, Integrity.{IsHash, IsIntegrity, address}, Paths.{Names, names_of, home_of, joined, content_names, bucket_names}, Matching.{meets}}
 use Rattle.cacache_core.proofs.{JoinedNames.{joined_texts_name}, ProperNames.{names_are_proper}, PathLemmas.{keys_have_digests}}
-use Rattle.cacache_store.specs.{declared.store.{step.Step.TheVariants.{ReadAll, RemoveFile}, answer.Answer.TheVariants.{Bytes, Done, Failed}}, Plain.{PlainStep, PlainAnswer}}
-use Rattle.cacache_disk.specs.{declared.{luck.Luck.TheVariants.{Plain}, node.Node.{Node, TheVariants.{File, Link}}}, Tree.{Tree, look, cut, same_path}, Apply.{apply, unless}, LedTo.{place, where_removable, removable}, Rooted.{Rooted}}
+use Rattle.cacache_store.specs.declared.store.{step.Step.TheVariants.{ReadAll, RemoveFile}, answer.Answer.TheVariants.{Done, Failed}}
+use Rattle.cacache_disk.specs.{declared.{luck.Luck.TheVariants.{Plain}, node.Node.{Node, TheVariants.{File, Link}}}, Tree.{Tree, look, cut, same_path, Rooted}, Apply.{apply, unless}, LedTo.{place, where_removable, removable}}
 use Rattle.cacache_disk.proofs.{FoundNodes.{and_then_ok, place_ok}, Maps.{same_path-true}, PutNodes.{look-cut}, Standing.{way_clear}}
-use Rattle.cacache_entry.specs.Latest.{Found}
-use Rattle.cacache_calls.specs.{declared.{reply.Reply.{Reply}, carried.Lookup.{Lookup}}, State.{looking, reading, over}, StepPaths.{bucket_path, content_path}, Looking.{found_in, found_for, found_content}, Table.{after}, Runs.{Moves, Runs}}
-use Rattle.cacache_value.{specs.Kinds.{Content, Bucket, path_kind, is_used}, proofs.KindsApart.{kind-below}}
-use Rattle.cacache_laws.specs.trees.{Walks.{is_leaf}, Answers.{AnsweredBy}, Idle.{Finds, IsNeeded, IsIdle, LacksIdle}}
-use Rattle.cacache_laws.proofs.trees.{Twins.Agreeing.{read_same}, Within.{Within, finds_within}}
+use Rattle.cacache_entry.specs.Bucket.{Found}
+use Rattle.cacache_calls.specs.Steps.{bucket_path, content_path}
+use Rattle.cacache_value.{specs.Kinds.{Content, Bucket, path_kind, is_used}, proofs.PathKinds.{kind-below}}
+use Rattle.cacache_laws.{specs.trees.{Walks.{is_leaf}, Idle.{Finds, IsNeeded, IsIdle, LacksIdle}}, proofs.trees.{Twins.Agreeing.{read_same}, Stepping.{Within, finds_within}}}
 use Rattle.cacache_loss.proofs.StepCases.{cut_misses}
 use Rattle.cacache_store.specs.declared.store.answer.Answer.TheVariants as answers
 use Rattle.cacache_calls.specs.declared.carried.Aim.TheVariants as aims
@@ -52,20 +51,6 @@ lacks_still cache home full lean rest left l within follows = record {
 
 -- ---- what both read
 
-pub moved_same : (t new : Tree) (m : PlainStep × PlainAnswer) (step : PlainStep) → step ≡ m.0 → m.1 ≡ (apply new m.0 Plain).0 → (apply new step Plain).0 ≡ (apply t step Plain).0 → m.1 ≡ (apply t m.0 Plain).0
-moved_same t new m step is a same = a ∙ ap (λ s. (apply new s Plain).0) (sym is) ∙ same ∙ ap (λ s. (apply t s Plain).0) is
-
-pub over_done : (t : Tree) (reply : Reply) (moves : Moves) (r : Reply) → Runs (over reply) moves r → AnsweredBy t moves
-over_done t reply [] r run = tt
-over_done t reply (m ∷ moves) r run = absurd (let wrong : None ≡ Some m.0 = run.0 in cc)
-
-checked_over : (t : Tree) (b : Bool) (x y : Reply) (more : Moves) (reply : Reply) → Runs (cond b (over x) (over y)) more reply → AnsweredBy t more
-checked_over t b x y more reply run = grind (arith, over_done)
-
--- after a content was read the call is over
-reading_over : (t : Tree) (k : carried.Content) (u : PlainAnswer) (more : Moves) (reply : Reply) → Runs (after (reading k) u) more reply → AnsweredBy t more
-reading_over t k u more reply run = grind (arith, checked_over, over_done)
-
 pub address_is : (i : List Hash) → IsIntegrity i → (h : Hash) × IsHash h × (address i ≡ Some h)
 address_is [] is = absurd (let some = is.nonempty in omega (arith, some))
 address_is (h ∷ hs) is = (h, All-head IsHash h hs is.hashes, refl)
@@ -97,32 +82,6 @@ module _ (cache : List ℕ) (home : Names) (full lean : Tree) (is : home_of cach
   content_read key found f =
       let c = content_named found.integrity (l.formed key found f) in
       read_same home full lean same_node l.links (content_path cache found.integrity) c.0 c.1 (inl (ap is_used c.2)) (needed_node key found c.0 f c.1)
-
-  -- ---- reads by key
-
-  module _ (key : List ℕ) (reply : Reply) where
-    abbrev by_key : Lookup
-    by_key = record { cache = cache; key = key; aim = aims.Read }
-
-    content_moves : (found : Found) (more : Moves) → Finds cache full key found → Runs (reading (found_content by_key found)) more reply → AnsweredBy lean more → AnsweredBy full more
-    content_moves found [] f run a = tt
-    content_moves found (m ∷ more) f run a =
-        let step : ReadAll (content_path cache found.integrity) ≡ m.0 = (let e : Some (ReadAll (content_path cache found.integrity)) ≡ Some m.0 = run.0 in cc) in
-        (moved_same full lean m (ReadAll (content_path cache found.integrity)) step a.0 (content_read key found f), reading_over full (found_content by_key found) m.1 more reply run.2)
-
-    found_moves : (b : List ℕ) (o : Option Found) (more : Moves) → found_in key b ≡ o → (apply full (ReadAll (bucket_path cache key)) Plain).0 ≡ Bytes b → Runs (found_for by_key aims.Read o) more reply → AnsweredBy lean more → AnsweredBy full more
-    unfolding found_in
-    found_moves b o more e answer run a = grind (arith, over_done, content_moves)
-
-    bucket_moves : (u : PlainAnswer) (more : Moves) → (apply full (ReadAll (bucket_path cache key)) Plain).0 ≡ u → Runs (after (looking by_key) u) more reply → AnsweredBy lean more → AnsweredBy full more
-    bucket_moves u more answer run a = grind (arith, found_moves, over_done)
-
-    pub get_moves : (moves : Moves) → Runs (looking by_key) moves reply → AnsweredBy lean moves → AnsweredBy full moves
-    get_moves [] run a = tt
-    get_moves (m ∷ more) run a =
-        let step : ReadAll (bucket_path cache key) ≡ m.0 = (let e : Some (ReadAll (bucket_path cache key)) ≡ Some m.0 = run.0 in cc) in
-        let now = moved_same full lean m (ReadAll (bucket_path cache key)) step a.0 (bucket_read key) in
-        (now, bucket_moves m.1 more (ap (λ s. (apply full s Plain).0) step ∙ sym now) run.2 a.1)
 
 -- ---- on one tree
 

@@ -1,7 +1,7 @@
 -- Each verdict is on the store that the listing found.
 use Rattle.std.proofs.{Common.{[], ◌∷◌, ◌++◌, ap, subst, sym, ◌∙◌}, lemmas.List.{map-append, Elements.{All-append, All-cons, All-nil}}}
 use Rattle.cacache.specs.Entries.{Found}
-use Rattle.uses_client.{specs.{declared.auditing.Verdict.{Verdict}, Audits.{AreRight, IsRight, entries_in}}, proofs.Audited.{right_on}}
+use Rattle.uses_client.{specs.{declared.auditing.Verdict.{Verdict}, Packages.{AreRight, IsRight, entries_in}}, proofs.Shown.{right_on}}
 use Rattle.uses_client.proofs.auditing.audit.Goals as goal
 
 pub loop-entry-preserved : goal.loop-entry-preserved

@@ -1,7 +1,7 @@
 -- Verdicts on the entries so far are right, and the store is as it was.
 use Rattle.std.proofs.Common.{◌≡◌}
 use Rattle.cacache.specs.Laws.{IsCache, tree_of}
-use Rattle.uses_client.specs.Audits.{AreRight, entries_in}
+use Rattle.uses_client.specs.Packages.{AreRight, entries_in}
 use Rattle.uses_client.proofs.auditing.audit.Given as goal
 
 abbrev pub invariant-loop-entry : goal.invariant-loop-entry

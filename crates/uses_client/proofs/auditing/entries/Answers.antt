@@ -1,7 +1,7 @@
 -- The error of an item is that of one among them.
 use Rattle.std.{proofs.{Common.{◌≡◌, ◌⊎◌, inr, rules, subst}, lemmas.Iterator.{Adapters.{YieldsList-from_vec}, Consumers.{YieldsList-turn}}}, specs.Prelude.{Err, IfErr}}
 use Rattle.cacache.specs.Laws.{In, OutOfMemory}
-use Rattle.uses_client.proofs.{Audited.{in_at}, ByResult.{handed}}
+use Rattle.uses_client.proofs.Shown.{in_at, handed}
 use Rattle.uses_client.proofs.auditing.entries.Goals as goal
 
 pub returns-in_err-item-clause-fails : goal.returns-in_err-item-clause-fails

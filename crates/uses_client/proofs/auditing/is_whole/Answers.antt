@@ -1,5 +1,5 @@
 -- A read that failed says why.
-use Rattle.uses_client.proofs.Audited.{no_is_right}
+use Rattle.uses_client.proofs.Shown.{no_is_right}
 use Rattle.uses_client.proofs.auditing.is_whole.Goals as goal
 
 pub returns-in-Ok : goal.returns-in-Ok

@@ -1,7 +1,7 @@
 -- A listing without an error has all entries.
 use Rattle.std.proofs.{Common.{◌∙◌, ap, sym, subst}, lemmas.Result.{MatchResult-weaker}}
 use Rattle.cacache.specs.{Calls.{Listed}, Laws.{GivesError}}
-use Rattle.uses_client.proofs.Audited.{listing_failed}
+use Rattle.uses_client.proofs.Shown.{listing_failed}
 use Rattle.uses_client.proofs.auditing.list.Goals as goal
 
 pub returns-in-Listed-clause-entries : goal.returns-in-Listed-clause-entries

@@ -1,6 +1,6 @@
 -- What is expected of a package.
 use Rattle.std.proofs.{Common.{length, refl}, lemmas.Result.{MatchResult-weaker}}
-use Rattle.uses_client.{specs.Packages.{said_of}, proofs.Installed.{as_said, lists_own}}
+use Rattle.uses_client.{specs.Packages.{said_of}, proofs.Shown.{as_said, lists_own}}
 use Rattle.uses_client.proofs.installing.install_expected.Goals as goal
 
 pub returns : goal.returns

@@ -1,7 +1,7 @@
 -- A writer opens, takes all bytes and commits, or is given up.
 use Rattle.std.proofs.{Common.{Some, [], arith, inr, refl, subst, sym}, lemmas.Result.{MatchResult-weaker}}
 use Rattle.cacache.specs.Laws.{FileAt, said_integrity}
-use Rattle.uses_client.{specs.Packages.{FailsWrite}, proofs.Installed.{if_free, unstored}}
+use Rattle.uses_client.{specs.Packages.{FailsWrite}, proofs.Shown.{if_free, unstored}}
 use Rattle.uses_client.proofs.installing.store_with.Goals as goal
 
 pub returns-in_err-opened : goal.returns-in_err-opened

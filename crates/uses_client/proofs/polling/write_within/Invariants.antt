@@ -1,7 +1,7 @@
 -- Each poll so far was pending.
 use Rattle.std.proofs.Common.{◌≡◌, ◌<◌}
 use Rattle.futures.specs.{declared.task.Poll.TheVariants.{Pending}, Task.{IsArmed, Keeps}}
-use Rattle.uses_client.specs.Polling.{WritesWithin}
+use Rattle.uses_client.specs.Writing.{WritesWithin}
 use Rattle.uses_client.proofs.polling.write_within.Given as goal
 
 abbrev pub invariant-loop : goal.invariant-loop

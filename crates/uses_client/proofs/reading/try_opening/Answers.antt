@@ -1,7 +1,7 @@
 -- What an opening of a content says about it.
 use Rattle.std.proofs.Common.{Ok, Err}
 use Rattle.cacache.specs.Laws.{bytes_under}
-use Rattle.uses_client.proofs.Opened.{told}
+use Rattle.uses_client.proofs.Shown.{told}
 use Rattle.uses_client.proofs.reading.try_opening.Goals as goal
 
 pub returns-in-Ok : goal.returns-in-Ok

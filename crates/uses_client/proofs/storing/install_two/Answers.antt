@@ -1,6 +1,6 @@
 use Rattle.std.specs.Prelude.{IfErr}
 use Rattle.cacache.specs.Laws.{FailsForMemory, IsExcused}
-use Rattle.uses_client.proofs.ByResult.{handed}
+use Rattle.uses_client.proofs.Shown.{handed}
 use Rattle.uses_client.proofs.storing.install_two.Goals as goal
 
 pub returns-in_err-second-clause-fails : goal.returns-in_err-second-clause-fails

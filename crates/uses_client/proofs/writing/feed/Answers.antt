@@ -1,7 +1,7 @@
 -- All bytes were taken, or the writer is gone.
 use Rattle.std.proofs.Common.{◌≡◌, ◌++◌}
 use Rattle.cacache.specs.Laws.{IsWriting, LeavesKnownCache}
-use Rattle.uses_client.proofs.{ByResult.{by_result}, Written.{only_writes}}
+use Rattle.uses_client.proofs.{Shown.{by_result}, Polled.{only_writes}}
 use Rattle.uses_client.proofs.writing.feed.Goals as goal
 
 pub returns : goal.returns

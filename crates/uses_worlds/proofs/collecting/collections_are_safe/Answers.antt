@@ -1,4 +1,4 @@
-use Rattle.uses_worlds.proofs.Collections.{collections_keep_puts}
+use Rattle.uses_worlds.proofs.Callers.{collections_keep_puts}
 use Rattle.uses_worlds.proofs.collecting.collections_are_safe.Goals as goal
 
 pub returns : goal.returns

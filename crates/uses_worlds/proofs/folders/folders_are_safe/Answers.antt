@@ -1,4 +1,4 @@
-use Rattle.uses_worlds.proofs.Machines.{folders_are_safe}
+use Rattle.uses_worlds.proofs.Callers.{folders_are_safe}
 use Rattle.uses_worlds.proofs.folders.folders_are_safe.Goals as goal
 
 pub returns : goal.returns

@@ -1,4 +1,4 @@
-use Rattle.uses_worlds.proofs.Buckets.{appended_are_found, lookups_read_whole}
+use Rattle.uses_worlds.proofs.Callers.{appended_are_found, lookups_read_whole}
 use Rattle.uses_worlds.proofs.processes.processes_share_a_bucket.Goals as goal
 
 pub returns : goal.returns

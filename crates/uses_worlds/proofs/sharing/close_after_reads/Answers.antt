@@ -1,6 +1,6 @@
 use Rattle.std.{proofs.Common.{subst}, specs.Prelude.{All}}
 use Rattle.cacache.specs.Shared.{SeatAgrees}
-use Rattle.uses_worlds.proofs.Threads.{reads_are_right}
+use Rattle.uses_worlds.proofs.Callers.{reads_are_right}
 use Rattle.uses_worlds.proofs.sharing.close_after_reads.Goals as goal
 
 pub returns : goal.returns

@@ -1,4 +1,4 @@
-use Rattle.cacache_laws.proofs.{Calls.Logs.{excuses_last}, results.JoinedResults.{excuses_stay, known_stays, leavings_join, others_stay, untouched_join}}
+use Rattle.cacache_laws.proofs.{Calls.Replays.{excuses_last}, results.Told.{excuses_stay, known_stays, leavings_join, others_stay, untouched_join}}
 use Rattle.cacache_laws.proofs.results.joins.joining_laws.Goals as goal
 
 pub returns : goal.returns

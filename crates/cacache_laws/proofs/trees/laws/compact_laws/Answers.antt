@@ -1,4 +1,4 @@
-use Rattle.cacache_laws.proofs.trees.{Compactions.{CompactTexts.{compact_texts_answer}, CompactTwice.{compact_texts_keep_found, compact_closes, compact_twice}, LeanTrees.{compactions_answer, compactions_keep}}, Led.{houses_are_fit}}
+use Rattle.cacache_laws.proofs.trees.Compactions.{CompactTexts.{compact_texts_answer}, CompactTwice.{compact_texts_keep_found, compact_closes, compact_twice}}
 use Rattle.cacache_laws.proofs.trees.laws.compact_laws.Goals as goal
 
 pub returns : goal.returns
@@ -7,7 +7,4 @@ returns c = record {
   settle = compact_twice;
   closes = compact_closes;
   found = compact_texts_keep_found;
-  keeps = compactions_keep;
-  calls = compactions_answer;
-  fit = houses_are_fit;
 }
