@@ -1,7 +1,7 @@
 -- Entries in the order of their ages, and how many of the newest keep within limits.
 use Rattle.std.proofs.{Common.{◌≡◌, Bool, true, false, ◌+◌, ◌<◌, ◌≤◌, ℕ, List, [], ◌∷◌, ◌++◌, Option, None, Some, refl, sym, ap, ap₂, subst, ◌∙◌, map, length, drop, take, get_or, append_assoc, length-append, arith}, lemmas.List.{drop-map, drop_at, drop_more, get_or-map, length-map, length-take-le, map-append, take-append-drop, Elements.{All-head}, Sums.{sum_by-cons}}}
 use Rattle.std.specs.{Prelude.{All, IsTrue, ◌↔◌}, List.Sorted.{IsSorted, IsSortedBy}, declared.cmp.Ordering.{Ordering}, Ordering.{is_lt}, Cmp.{IsTotalOrder, then_total, on_total, nat_cmp_total, Lexicographic.{nat_list_cmp_total}}}
-use Rattle.cacache_entry.specs.{Latest.{Found}, View.{found_view}, declared.metadata.Metadata.{Metadata}}
+use Rattle.cacache_entry.specs.{Bucket.{Found}, View.{found_view}, declared.metadata.Metadata.{Metadata}}
 use Rattle.cacache_keep.specs.{declared.{limits.Limits.{Limits}, weighing.Weighed.{Weighed}}, Limits.{IsSince, IsWithin, Keeps, KeepsMost, Weight, age_cmp, bytes_in, entries_in, weight_of}}
 
 -- ---- the order

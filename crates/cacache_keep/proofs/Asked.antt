@@ -2,11 +2,11 @@
 use Rattle.std.proofs.{Common.{◌≡◌, ℕ, List, [], ◌∷◌, ◌++◌, Bool, true, false, Option, Ok, Err, Result, IfOk, inl, inr, refl, sym, ap, subst, ◌∙◌, map}, lemmas.List.{map-append, Elements.{filter-append}}}
 use Rattle.std.specs.{List.{filter, AllByRecursion}, Prelude.{OnOk, not}}
 use Rattle.cacache_store.specs.declared.{env.Env.{Env}, store.log.LogItem.{LogItem}}
-use Rattle.cacache_entry.specs.Latest.{Found}
+use Rattle.cacache_entry.specs.Bucket.{Found}
 use Rattle.cacache_calls.specs.{declared.{command.Command.{Command}, reply.Reply.{Reply}}, State.{Site, Item}, Table.{opening}, Runs.{Ran, plain_item}}
 use Rattle.cacache_calls.specs.declared.command.Command.TheVariants as commands
 use Rattle.cacache_calls.specs.declared.reply.Reply.TheVariants as replies
-use Rattle.cacache_jobs.specs.{Environment.{KeepsRest}, Sites.{site_of}}
+use Rattle.cacache_jobs.specs.{Environment.{KeepsRest}, JobStates.{site_of}}
 use Rattle.cacache_keep.specs.Calls.{AreEntries, AsksEach, MadeCalls, question_of}
 use Rattle.cacache_laws.proofs.trees.Members.{Member}
 

@@ -1,8 +1,8 @@
 -- Lookups of the keys of entries that are to be dropped, one after another.
-use Rattle.std.proofs.{Common.{◌≡◌, ◌∙◌, ◌<◌, ◌+◌, ℕ, true, List, [], ◌∷◌, ◌++◌, Option, refl, sym, ap, subst, map, length, get_or, take, drop, string_bytes}, lemmas.List.{drop_more, map-append, take-append-drop, take_more, Elements.{All-nil, All-push}}}
+use Rattle.std.proofs.{Common.{◌≡◌, ◌∙◌, ◌<◌, ◌+◌, ℕ, true, List, [], ◌∷◌, ◌++◌, Option, sym, ap, subst, map, length, get_or, take, drop, string_bytes}, lemmas.List.{drop_more, map-append, take-append-drop, take_more, Elements.{All-push}}}
 use Rattle.cacache_core.specs.declared.errors.Error.{Error}
 use Rattle.cacache_store.specs.declared.store.log.LogItem.{LogItem}
-use Rattle.cacache_entry.specs.{Latest.{Found}, View.{found_view}, declared.metadata.Metadata.{Metadata}}
+use Rattle.cacache_entry.specs.{Bucket.{Found}, View.{found_view}, declared.metadata.Metadata.{Metadata}}
 use Rattle.cacache_calls.{specs.{declared.reply.Reply.{Reply}, Licence.{looking_on}, Runs.{Ran}, State.{Site}, Table.{opening}}, proofs.Within.{calls_keep_to}}
 use Rattle.cacache_calls.specs.declared.command.Command.TheVariants as commands
 use Rattle.cacache_calls.specs.declared.reply.Reply.TheVariants as replies
@@ -10,9 +10,6 @@ use Rattle.cacache_keep.specs.Confirming.{Confirms, Leads, LeadsAway, Lookup, St
 use Rattle.cacache_keep.proofs.{Asked.{mapped_on}, Stopped.{AllLook, Keeps, LooksMade, gained, made_looks, then_keeps}}
 
 -- ---- lookups that found their entries
-
-pub none_confirmed : (site : Site) (log : Option (List LogItem)) → Confirms site [] log log
-none_confirmed site log = record { lookups = []; each = refl; lead = All-nil Leads; calls = refl }
 
 views_more : (entries : List Metadata) (k : ℕ) (m : Metadata) → k < length entries → m ≡ get_or entries k m
     → map found_view (take (k + 1) entries) ≡ map found_view (take k entries) ++ found_view m ∷ []

@@ -2,21 +2,20 @@
 use Rattle.std.proofs.{Common.{◌≡◌, inl, inr, ℕ, List, [], ◌∷◌, ◌++◌, Bool, true, false, Option, None, Some, Result, Ok, Err, map, refl, sym, ap, subst, ◌∙◌}, lemmas.Slice.Eq.{bytes_eq-Decides}}
 use Rattle.std.specs.{Prelude.{◌&&◌, bytes_eq, not}, List.{list_any}}
 use Rattle.sha1.specs.Sha1.{sha1}
-use Rattle.cacache_core.specs.{declared.{errors.{Error.{Error, TheVariants.{IoError, OutOfMemory}}, Fault.{Fault}}, integrity.{algorithm.Algorithm.TheVariants.{Sha256}, digest.Hash.{Hash}}}, Contexts.{fault_in}, Integrity.{IsHash, integrity_under}, PathNames.{Names, home_of, names_of, names_below}, Paths.{bucket_names_of}}
+use Rattle.cacache_core.specs.{declared.{errors.{Error.{Error, TheVariants.{IoError, OutOfMemory}}, Fault.{Fault}}, integrity.{algorithm.Algorithm.TheVariants.{Sha256}, digest.Hash.{Hash}}}, Errors.{fault_in}, Integrity.{IsHash, integrity_under}, Paths.{Names, home_of, names_of, names_below, bucket_names_of}}
 use Rattle.cacache_core.proofs.PathLemmas.{keys_have_digests}
 use Rattle.cacache_store.specs.declared.store.answer.Answer.TheVariants as answers
 use Rattle.cacache_store.specs.{declared.store.log.LogItem.{LogItem, TheVariants.{Made}}, Plain.{PlainAnswer}}
 use Rattle.cacache_store.specs.declared.store.step.Step.TheVariants as steps
-use Rattle.cacache_disk.specs.{declared.luck.Luck.TheVariants.{Plain}, Apply.{apply}, Rooted.{Rooted}, Tree.{Tree}, memory.Replay.{IsLog, tree_of}}
-use Rattle.cacache_disk.proofs.KeptFolders.{steps_keep_rooted}
-use Rattle.cacache_entry.specs.{Bucket.{entries_of}, Latest.{Found, latest}}
-use Rattle.cacache_calls.specs.{declared.reply.Reply.{Reply}, Runs.{Gains, Moves, Ran, plain_reply, without_message}, SingleSteps.{Does, FailsAt}, State.{Site}, StepPaths.{bucket_path}, Table.{opening}}
+use Rattle.cacache_disk.{specs.{declared.luck.Luck.TheVariants.{Plain}, Apply.{apply}, Tree.{Rooted, Tree}, Replay.{IsLog, tree_of}}, proofs.KeptFolders.{steps_keep_rooted}}
+use Rattle.cacache_entry.specs.Bucket.{entries_of, Found, latest}
+use Rattle.cacache_calls.specs.{declared.reply.Reply.{Reply}, Runs.{Gains, Moves, Ran, plain_reply, without_message}, SingleSteps.{Does, FailsAt}, State.{Site}, Steps.{bucket_path}, Table.{opening}}
 use Rattle.cacache_calls.specs.declared.command.Command.TheVariants as commands
 use Rattle.cacache_calls.specs.declared.reply.Reply.TheVariants as replies
 use Rattle.cacache_value.specs.{Acts.{Drop, act_at, act_of, change, list_of}, Placed.{Placed}, Shows.{ShowsBucket}, Value.{Value, value_of_tree, wide_value}}
 use Rattle.cacache_value.proofs.{Shows.{trees_show}, Traces.{steps_act, steps_keep_placed}}
 use Rattle.cacache_history.{specs.Commits.{deeds_of_act}, proofs.{Contents.Digests.{own_integrity}, Histories.ShownTurns.{bucket_below}}}
-use Rattle.cacache_laws.specs.{Caches.{Called, HasKey, setup_at}, Keeping.{found_under}, ReadAnswers.{entries_on}, Sequence.{after_deeds}, Standing.{IsStanding}, trees.{Compacting.{Line, decided, decision, lines_of}, Contents.{bucket_in, content_in}, Mending.{found_in}}}
+use Rattle.cacache_laws.specs.{Caches.{Called, HasKey, setup_at}, Beside.{found_under}, ReadAnswers.{entries_on}, Sequence.{after_deeds}, Standing.{IsStanding}, trees.{Compacting.{Line, decided, decision, lines_of}, Contents.{bucket_in, content_in}, Verifying.{found_in}}}
 use Rattle.cacache_laws.proofs.{Calls.{InParts.{logs_lead}, CallErrors.{plain_error}}, Readings.{OpenReaders.{log_front}, ReadAnswers.{reading_keeps}}, Removing.Removed.{bucket_gone, cut_buckets, removed_at, uncut_contents}, trees.{Compactions.{CompactAnswers.{found_as, latest_is, undecided, ours}, CompactLines.{pieces_are}, CompactTwice.{in_bytes}}, HiddenKeys.{tombstones_hide}, Logged.{gains_join}, Spared.{SparedCalls.{call_left, stands}, SparedKeys.{tombstones_fit}}, Twins.Twice.{address_is}}}
 use Rattle.cacache_sync.specs.Lookups.{delete_of}
 use Rattle.cacache_keep.specs.{Confirming.{is_led}, Parting.{DropsKey, Entombs, StopsUnlinkingKey, TriesKey, UnlinksKey, has_other, is_other, leads_alone, may_be_full, unless_memory}, Repairing.{tombstone}, Rewriting.{StopsSecuring, SyncsFolder, folder_of}}

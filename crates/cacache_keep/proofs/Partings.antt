@@ -1,18 +1,15 @@
 -- Keys that are dropped one after another.
 use Rattle.std.proofs.{Common.{◌≡◌, inl, inr, List, [], ◌∷◌, ◌++◌, Bool, true, false, Option, Result, Ok, Err, filter, not, refl, sym, ap, subst, ◌∙◌}, lemmas.List.{map-append}}
 use Rattle.std.specs.Prelude.{IfErr, IfOk}
-use Rattle.cacache_core.specs.{declared.errors.Error.{Error, TheVariants.{OutOfMemory}}, Contexts.{fault_in}}
+use Rattle.cacache_core.specs.{declared.errors.Error.{Error, TheVariants.{OutOfMemory}}, Errors.{fault_in}}
 use Rattle.cacache_store.specs.declared.store.log.LogItem.{LogItem}
-use Rattle.cacache_entry.specs.Latest.{Found}
+use Rattle.cacache_entry.specs.Bucket.{Found}
 use Rattle.cacache_calls.specs.{Runs.{without_message}, State.{Site}}
 use Rattle.cacache_calls.specs.declared.reply.Reply.TheVariants as replies
 use Rattle.cacache_keep.specs.Parting.{DropsKey, DropsKeys, Entombs, Parting, Parts, StopsNextKey, StopsParting, StopsUnlinkingKey, TriesKey, UnlinksKey, may_be_full, parted, unless_memory}
 use Rattle.cacache_keep.proofs.Asked.{kept, passed}
 
 module _ (durable : Bool) (site : Site) where
-  pub none_parted : (entries gone left : List Found) (log : Option (List LogItem)) → entries ≡ [] → gone ≡ [] → left ≡ [] → Parts durable site entries gone left log log
-  none_parted entries gone left log none g l = record { partings = []; each = sym none; dropped = g; spared = l; dropping = refl }
-
   drops_on : (ps : List Parting) (p : Parting) (old mid new : Option (List LogItem)) → DropsKeys durable site ps old mid → DropsKey durable site p.0 (Ok p.1) mid new → DropsKeys durable site (ps ++ p ∷ []) old new
   drops_on [] p old mid new same one = (new, subst (λ (log : Option (List LogItem)). DropsKey durable site p.0 (Ok p.1) log new) same one, refl)
   drops_on (q ∷ ps) p old mid new (next, first, more) one = (next, first, drops_on ps p next mid new more one)

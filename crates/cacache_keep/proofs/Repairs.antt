@@ -2,7 +2,6 @@ pub mod Judged
 pub mod InTurn
 pub mod Tombs
 pub mod Shown
-pub mod AfterListing
 pub mod Buried
 pub mod Whole
 pub mod Houses

@@ -1,15 +1,15 @@
 -- A pruning leaves each key that led to bytes where it led, unless an entry has it that is dropped or left.
-use Rattle.std.proofs.{Common.{◌≡◌, ◌⊎◌, inl, inr, List, [], ◌∷◌, ◌++◌, Bool, true, false, ℕ, Option, None, Some, Ok, Err, map, refl, sym, ap, subst, take, ◌∙◌}, lemmas.{List.{map-append, Elements.{All-head, All-tail}}, Slice.Eq.{bytes_eq-Decides}}}
+use Rattle.std.proofs.{Common.{◌≡◌, ◌⊎◌, inl, inr, List, [], ◌∷◌, ◌++◌, Bool, true, false, ℕ, Option, None, Some, Result, Ok, Err, map, refl, sym, ap, subst, take, ◌∙◌}, lemmas.{List.{map-append, Elements.{All-head, All-tail}}, Slice.Eq.{bytes_eq-Decides}}}
 use Rattle.std.specs.Prelude.{All, bytes_eq}
-use Rattle.cacache_core.specs.{declared.{errors.Error.TheVariants.{OutOfMemory}, integrity.digest.Hash.{Hash}}, PathNames.{Names, home_of}}
+use Rattle.cacache_core.specs.{declared.{errors.Error.{Error, TheVariants.{OutOfMemory}}, integrity.digest.Hash.{Hash}}, Paths.{Names, home_of}}
 use Rattle.cacache_store.specs.declared.store.log.LogItem.{LogItem}
-use Rattle.cacache_disk.specs.{Rooted.{Rooted}, Tree.{Tree}, memory.Replay.{IsLog, tree_of}}
-use Rattle.cacache_entry.specs.Latest.{Found, latest}
+use Rattle.cacache_disk.specs.{Tree.{Rooted, Tree}, Replay.{IsLog, tree_of}}
+use Rattle.cacache_entry.specs.Bucket.{Found, latest}
 use Rattle.cacache_calls.specs.{Runs.{Gains, Moves}, State.{Site}}
 use Rattle.cacache_value.specs.Placed.{Placed}
-use Rattle.cacache_laws.specs.{Caches.{HasKey}, Keeping.{found_under}, ReadAnswers.{entries_on}, Sequence.{AreAnswered}, Standing.{IsStanding}, trees.Mending.{found_in}}
+use Rattle.cacache_laws.specs.{Caches.{HasKey}, Beside.{found_under}, ReadAnswers.{entries_on}, Sequence.{AreAnswered}, Standing.{IsStanding}, trees.Verifying.{found_in}}
 use Rattle.cacache_laws.proofs.{Calls.InParts.{logs_lead}, trees.{Led.{finds_led}, Logged.{answered_split, gains_join}, Members.{Member, contains_member, in_left, in_right, member_contains}}}
-use Rattle.cacache_keep.specs.{declared.{collecting.Collection.{Collection}, limits.Limits.{Limits}}, Collecting.{CollectsAs, StopsCollectingBy, Told, tally_of}, Confirming.{Confirms, Leads, Lookup, finding}, Later.{KeepsLed}, Limits.{Weight, entries_in}, Parting.{DropsKey, DropsKeys, Parting, StopsNextKey, gone_in, left_in, parted}, Pruning.{PlansPrune, PrunesCache}, Sparing.{HasKeyAmong, PrunePlansLeave, PrunesDropKeys, PrunesDropLed, PrunesSpareKeys, StaysLed, StoppedPrunesSpareKeys}}
+use Rattle.cacache_keep.specs.{declared.{collecting.Collection.{Collection}, limits.Limits.{Limits}}, Collecting.{EndsCollecting, Told, tally_of}, Confirming.{Confirms, Leads, Lookup, finding}, Later.{KeepsLed}, Limits.{Weight, entries_in}, Parting.{DropsKey, DropsKeys, Parting, StopsNextKey, gone_in, left_in, parted}, Pruning.{PlansPrune, PrunesCache}, Sparing.{HasKeyAmong, PrunePlansLeave, PrunesDropKeys, PrunesDropLed, PrunesSpareKeys, StaysLed, StoppedPrunesSpareKeys}}
 use Rattle.cacache_keep.proofs.{Collections.{Leaving.{keeps_led}, Optional.{collect_gains, looks, options_keep_led, stop_gains, stopped_options_keep_led}, StoppedKeys.{listing_keeps}}, Confirmed.{astray_keeps, confirms_keep, confirms_made}, KeptKeys.{KeepsBut, dropped_but, dropped_gone, front_logged, longer, reached, same_but, then_but, tidies_but, wider}, Stopped.{EachOn, Keeps, index_keeps, then_keeps}, Weights.{unweighed_keeps, weighs_keep}}
 
 -- ---- a plan
@@ -145,13 +145,21 @@ module _ (site : Site) (home : Names) (is : home_of site.cache ≡ Some home) wh
 
 -- ---- a pruning
 
-module _ (limits : Limits) (told : Told) (limit : Option ℕ) (site : Site) (home : Names) (entries gone left : List Found) (dropped kept : List Weight) (c : Collection) (old new : List LogItem)
+ends_gains : (told : Told) (limit : Option ℕ) (site : Site) (home : Names) (r : Result Collection Error) (old new : Option (List LogItem)) → home_of site.cache ≡ Some home → EndsCollecting told limit site r old new → (moves : Moves) × Gains old new moves
+ends_gains told limit site home (Ok c) old new is ends = collect_gains told limit site home c.kept (tally_of c) old new is ends.0
+ends_gains told limit site home (Err e) old new is ends = stop_gains told limit site home e old new is ends.1
+
+ends_keep_led : (told : Told) (limit : Option ℕ) (site : Site) (home : Names) (r : Result Collection Error) (old new : List LogItem) → home_of site.cache ≡ Some home → IsLog new → IsStanding site.cache old → EndsCollecting told limit site r (Some old) (Some new) → KeepsLed site.cache old new
+ends_keep_led told limit site home (Ok c) old new is logged standing ends = options_keep_led told limit site home c.kept (tally_of c) old new is logged standing ends.0
+ends_keep_led told limit site home (Err e) old new is logged standing ends = stopped_options_keep_led told limit site home e old new is logged standing ends.1
+
+module _ (limits : Limits) (told : Told) (limit : Option ℕ) (site : Site) (home : Names) (entries gone left : List Found) (dropped kept : List Weight) (c : Result Collection Error) (old new : List LogItem)
     (is : home_of site.cache ≡ Some home) (p : PrunesCache limits told limit site entries dropped kept gone left c (Some old) (Some new)) where
   abbrev ps : List Parting
   ps = p.parts.partings
 
   late : (moves : Moves) × Gains p.settled (Some new) moves
-  late = collect_gains told limit site home c.kept (tally_of c) p.settled (Some new) is p.collects
+  late = ends_gains told limit site home c p.settled (Some new) is p.collects
 
   before : But site home is (parted p.parts.partings) (Some old) p.confirmed
   before = looks_but site home is (parted ps) (Some old) p.confirmed (confirmed_keeps limits site entries dropped kept [] (Some old) p.listed p.confirmed p.planning p.confirms)
@@ -164,7 +172,7 @@ module _ (limits : Limits) (told : Told) (limit : Option ℕ) (site : Site) (hom
     there = settle site home is (parted ps) old new p.settled late.0 (then_but site home is (λ key. Member key (keys_in (parted ps))) (Some old) p.confirmed p.settled before drops) late.1 logged standing
 
     last : KeepsLed site.cache there.log new
-    last = options_keep_led told limit site home c.kept (tally_of c) there.log new is logged there.standing (subst (λ (l : Option (List LogItem)). CollectsAs told limit site c l (Some new)) there.here p.collects)
+    last = ends_keep_led told limit site home c there.log new is logged there.standing (subst (λ (l : Option (List LogItem)). EndsCollecting told limit site c l (Some new)) there.here p.collects)
 
     among : (key : List ℕ) → (HasKeyAmong gone key → ⊥) → (HasKeyAmong left key → ⊥) → Member key (keys_in (parted p.parts.partings)) → ⊥
     among key ungone unleft m = elim (dropped_or_left ps key m) [
@@ -240,33 +248,24 @@ prunes_drop_led limits told limit site home entries gone left dropped kept c ent
 -- ---- one that an error ended
 
 pub stopped_prunes_spare_keys : StoppedPrunesSpareKeys
-stopped_prunes_spare_keys limits told limit site home e key bytes i old new is logged standing (inl (inl stop)) other has =
+stopped_prunes_spare_keys limits durable site home e key bytes i old new is logged standing (inl (inl stop)) other has =
     keeps_led site.cache key bytes i old new (index_keeps site stop.0 (Some old) (Some new) stop.1) logged standing has
-stopped_prunes_spare_keys limits told limit site home e key bytes i old new is logged standing (inl (inr (entries, sorted, odd, listed, reads, each, stop))) other has =
+stopped_prunes_spare_keys limits durable site home e key bytes i old new is logged standing (inl (inr (entries, sorted, odd, listed, reads, each, stop))) other has =
     keeps_led site.cache key bytes i old new (then_keeps (Some old) listed (Some new) (listing_keeps site entries (Some old) listed reads.0) (unweighed_keeps site.cache sorted e listed (Some new) stop)) logged standing has
-stopped_prunes_spare_keys limits told limit site home e key bytes i old new is logged standing (inr (entries, dropped, kept, odd, listed, plan, inl (refuses, same))) other has =
+stopped_prunes_spare_keys limits durable site home e key bytes i old new is logged standing (inr (entries, dropped, kept, odd, listed, plan, inl (refuses, same))) other has =
     keeps_led site.cache key bytes i old new (subst (Keeps (Some old)) (sym same) (plan_keeps limits site entries dropped kept odd (Some old) listed plan)) logged standing has
-stopped_prunes_spare_keys limits told limit site home e key bytes i old new is logged standing (inr (entries, dropped, kept, odd, listed, plan, inr (none, inl astray))) other has =
+stopped_prunes_spare_keys limits durable site home e key bytes i old new is logged standing (inr (entries, dropped, kept, odd, listed, plan, inr (none, inl astray))) other has =
     keeps_led site.cache key bytes i old new (then_keeps (Some old) listed (Some new) (plan_keeps limits site entries dropped kept odd (Some old) listed plan) (astray_keeps site (entries_in dropped) e listed (Some new) astray)) logged standing has
-stopped_prunes_spare_keys limits told limit site home e key bytes i old new is logged standing (inr (entries, dropped, kept, odd, listed, plan, inr (none, inr (confirmed, confirms, inl stop)))) other has =
+stopped_prunes_spare_keys limits durable site home e key bytes i old new is logged standing (inr (entries, dropped, kept, odd, listed, plan, inr (none, inr (confirmed, confirms, stop)))) other has =
     let marked = parted stop.done ++ take 1 stop.rest in
     let before = looks_but site home is marked (Some old) confirmed (confirmed_keeps limits site entries dropped kept odd (Some old) listed confirmed plan confirms) in
     let among = λ (k : List ℕ). in_left k (keys_in (parted stop.done)) (keys_in (take 1 stop.rest)) in
     let later = λ (k : List ℕ). in_right k (keys_in (parted stop.done)) (keys_in (take 1 stop.rest)) in
     let both = λ (k : List ℕ) (m : Member k (keys_in (parted stop.done) ++ keys_in (take 1 stop.rest))). subst (Member k) (sym (map-append (λ (f : Found). f.key) (parted stop.done) (take 1 stop.rest))) m in
     let IsMarked = λ (k : List ℕ). Member k (keys_in marked) in
-    let done = wider site home is (λ k. Member k (keys_in (parted stop.done))) IsMarked confirmed stop.between (λ k m. both k (among k m)) (keys_but site home is told.durable stop.done confirmed stop.between stop.dropping) in
-    let next = wider site home is (λ k. Member k (keys_in (take 1 stop.rest))) IsMarked stop.between (Some new) (λ k m. both k (later k m)) (next_but site home is told.durable stop.rest stop.between (Some new) stop.stop) in
+    let done = wider site home is (λ k. Member k (keys_in (parted stop.done))) IsMarked confirmed stop.between (λ k m. both k (among k m)) (keys_but site home is durable stop.done confirmed stop.between stop.dropping) in
+    let next = wider site home is (λ k. Member k (keys_in (take 1 stop.rest))) IsMarked stop.between (Some new) (λ k m. both k (later k m)) (next_but site home is durable stop.rest stop.between (Some new) stop.stop) in
     let all = then_but site home is IsMarked (Some old) confirmed (Some new) before (then_but site home is IsMarked confirmed stop.between (Some new) done next) in
     let s = all.stays old new refl refl logged standing in
     let apart = λ (m : Member key (keys_in marked)). other (contains_member key (keys_in marked) m) in
     record { standing = s.standing; finds = s.finds key apart; has = s.has key bytes i apart has }
-stopped_prunes_spare_keys limits told limit site home e key bytes i old new is logged standing (inr (entries, dropped, kept, odd, listed, plan, inr (none, inr (confirmed, confirms, inr (gone, left, settled, parts, stops))))) other has =
-    let ps = parts.partings in
-    let late = stop_gains told limit site home e settled (Some new) is stops in
-    let before = looks_but site home is (parted ps) (Some old) confirmed (confirmed_keeps limits site entries dropped kept odd (Some old) listed confirmed plan confirms) in
-    let drops = keys_but site home is told.durable ps confirmed settled parts.dropping in
-    let there = settle site home is (parted ps) old new settled late.0 (then_but site home is (λ k. Member k (keys_in (parted ps))) (Some old) confirmed settled before drops) late.1 logged standing in
-    let k = stopped_options_keep_led told limit site home e there.log new is logged there.standing (subst (λ (l : Option (List LogItem)). StopsCollectingBy told limit site e l (Some new)) there.here stops) in
-    let apart = λ (m : Member key (keys_in (parted ps))). other (contains_member key (keys_in (entries_in dropped)) (subst (λ (l : List Found). Member key (keys_in l)) parts.each m)) in
-    record { standing = k.standing; finds = k.finds key ∙ there.finds key apart; has = k.key key bytes i (there.has key bytes i apart has) }

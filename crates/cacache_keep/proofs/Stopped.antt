@@ -4,10 +4,10 @@ use Rattle.std.proofs.{Common.{◌≡◌, ◌⊎◌, ◌<◌, ◌+◌, ℕ, List
 use Rattle.std.specs.{Prelude.{All, IsErrAnd}, List.{AllByRecursion}}
 use Rattle.cacache_core.specs.declared.{errors.{Error.{Error, TheVariants.{IoError, OutOfMemory}}, Fault.{Fault, TheVariants.{NotFound}}}, integrity.digest.Hash.{Hash}}
 use Rattle.cacache_store.specs.declared.store.log.LogItem.{LogItem}
-use Rattle.cacache_entry.specs.Latest.{Found}
+use Rattle.cacache_entry.specs.Bucket.{Found}
 use Rattle.cacache_calls.specs.{declared.{command.Command.{Command}, reply.Reply.{Reply}}, State.{Site, Item}, Table.{opening}, Runs.{Ran, plain_item, without_message, Moves, Gains}, Licence.{AllMay, looking_on}}
 use Rattle.cacache_calls.proofs.Within.{calls_keep_to}
-use Rattle.cacache_jobs.specs.Sites.{site_of}
+use Rattle.cacache_jobs.specs.JobStates.{site_of}
 use Rattle.cacache_walks.specs.{Listing.{ListsContents}, Reading.{Folder, ReadsFolders, StopsWalk, folders_in}}
 use Rattle.cacache_keep.specs.{Calls.{Asks, AsksEach, HasNoIndex, IsFirstError, IsIndexError, ListsEntries, MadeCalls, SaysWhy, StopsIndex, StopsQuestions, StopsReading, question_of, removal}, Reading.{ReadsEach}, Repairing.{DropsDamaged}, Walking.{MeetsIndex}}
 use Rattle.cacache_disk.specs.Tree.{Tree}

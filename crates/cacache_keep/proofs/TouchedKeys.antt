@@ -2,21 +2,21 @@
 use Rattle.std.proofs.{Common.{◌≡◌, inl, inr, ◌<◌, ◌^◌, ℕ, Bool, true, false, cond, List, [], ◌∷◌, ◌++◌, Option, None, Some, Result, Ok, Err, map, fold, unwrap_or, option_map, refl, sym, ap, subst, ◌∙◌}, lemmas.{List.Elements.{All-head, All-tail}, Slice.Eq.{bytes_eq-Decides}}}
 use Rattle.std.specs.Prelude.{All, IfErr, IfOk, IfSome, IsUtf8, MatchOption, bytes_eq}
 use Rattle.sha1.specs.Sha1.{sha1}
-use Rattle.cacache_core.specs.{declared.{errors.Error.{Error, TheVariants.{IoError, OutOfMemory}}, integrity.digest.Hash.{Hash}}, PathNames.{home_of}}
+use Rattle.cacache_core.specs.{declared.{errors.Error.{Error, TheVariants.{IoError, OutOfMemory}}, integrity.digest.Hash.{Hash}}, Paths.{home_of}}
 use Rattle.cacache_store.specs.declared.store.answer.Answer.TheVariants as answers
 use Rattle.cacache_store.specs.declared.store.step.Step.TheVariants as steps
 use Rattle.cacache_store.specs.{declared.{env.Env.{Env}, store.log.LogItem.{LogItem, TheVariants.{Made as Logged}}}, Plain.{PlainAnswer, PlainStep}}
-use Rattle.cacache_disk.specs.memory.Replay.{IsLog, tree_of}
-use Rattle.cacache_entry.specs.{Entry.{Entry}, FittingEntries.{AreBytes, IsEntry, IsJson}, Latest.{Found, after_entry, answer_of, answer_of_integrity, found_of}}
+use Rattle.cacache_disk.specs.Replay.{IsLog, tree_of}
+use Rattle.cacache_entry.specs.{Entry.{Entry}, FittingEntries.{AreBytes, IsEntry, IsJson}, Bucket.{Found, after_entry, answer_of, answer_of_integrity, found_of}}
 use Rattle.cacache_calls.specs.declared.command.Command.TheVariants as commands
 use Rattle.cacache_calls.specs.declared.reply.Reply.TheVariants as replies
-use Rattle.cacache_calls.specs.{declared.{command.{Command.{Command}, Insert.{Insert}}, reply.Reply.{Reply}}, Inserting.{insertion}, Runs.{Ran, plain_reply, without_message}, SingleSteps.{FailsAt}, Sound.{FormedIfWritten}, StepPaths.{bucket_path}, Table.{opening}}
-use Rattle.cacache_calls.proofs.IntegrityUtf8.{integrity_utf8}
-use Rattle.cacache_jobs.specs.{Environment.{AsksMoment}, Sites.{site_of}}
-use Rattle.cacache_sync.specs.put.Puts.{insert_of}
+use Rattle.cacache_calls.specs.{declared.{command.{Command.{Command}, Insert.{Insert}}, reply.Reply.{Reply}}, Inserting.{insertion}, Runs.{Ran, plain_reply, without_message}, SingleSteps.{FailsAt}, Sound.{FormedIfWritten}, Steps.{bucket_path}, Table.{opening}}
+use Rattle.cacache_calls.proofs.Telling.{integrity_utf8}
+use Rattle.cacache_jobs.specs.{Environment.{AsksMoment}, JobStates.{site_of}}
+use Rattle.cacache_sync.specs.put.KeyedWriters.{insert_of}
 use Rattle.cacache_history.proofs.Entries.Spelled.{HasIntegrity, latest_has}
-use Rattle.cacache_laws.specs.{Caches.{Called, IsCache}, Inserts.{InsertsKey}, Keeping.{KeepsOthers, StaysKnown, found_under}, Looks.{GivesFound}, OpenWriters.{LeavesKnownCache}, ReadAnswers.{entries_on}}
-use Rattle.cacache_laws.proofs.{Calls.{InParts.{logs_lead}, Logs.{some_same}, CallErrors.{plain_error}}, Putting.Puts.{inserts_last}, Readings.{Known.{caches_last}, GivenReads.{finds_found}, Looks.{tree_stays}, OpenReaders.{leaves, log_front}}, results.Told.{looks_leave}}
+use Rattle.cacache_laws.specs.{Caches.{Called, IsCache}, Inserts.{InsertsKey}, Beside.{KeepsOthers, StaysKnown, found_under}, Looks.{GivesFound}, OpenWriters.{LeavesKnownCache}, ReadAnswers.{entries_on}}
+use Rattle.cacache_laws.proofs.{Calls.{InParts.{logs_lead}, Replays.{some_same}, CallErrors.{plain_error}}, Putting.Puts.{inserts_last}, Readings.{Known.{caches_last}, GivenReads.{finds_found}, Looks.{tree_stays}, OpenReaders.{leaves, log_front}}, results.Told.{looks_leave}}
 use Rattle.cacache_keep.specs.{Touched.{LeadsAnew, LeavesTouched, TouchMeans, at_moment}, Touching.{ReadsClean, StopsChecking, StopsTouching, Touches, TouchesKey, is_found, renewed, said_of}}
 use Rattle.cacache_keep.proofs.Stopped.{Keeps, Look, gained, gains_none}
 

@@ -5,8 +5,8 @@ use Rattle.cacache_core.specs.declared.{errors.{Error.{Error, TheVariants.{OutOf
 use Rattle.cacache_store.specs.declared.store.answer.Answer.TheVariants as answers
 use Rattle.cacache_store.specs.declared.store.step.Step.TheVariants as steps
 use Rattle.cacache_store.specs.declared.store.log.LogItem.{LogItem}
-use Rattle.cacache_entry.specs.{Latest.{Found}, View.{found_view}, declared.metadata.Metadata.{Metadata}}
-use Rattle.cacache_calls.specs.StepPaths.{content_path}
+use Rattle.cacache_entry.specs.{Bucket.{Found}, View.{found_view}, declared.metadata.Metadata.{Metadata}}
+use Rattle.cacache_calls.specs.Steps.{content_path}
 use Rattle.cacache_keep.specs.{declared.weighing.Weighed.{Weighed}, Limits.{Weight, entries_in, weight_of}, Planning.{HidesSize, TellsSize}, Weighing.{HasPaths, HidesNewest, NotesPath, StopsWeighing, Weighs, WeighsBeside, WeighsIf, has_path, in_line, lies_at}}
 use Rattle.cacache_keep.proofs.{Stopped.{Keeps, gained, gains_none, then_keeps}, TouchedKeys.{failed_keep}}
 

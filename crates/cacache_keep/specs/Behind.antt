@@ -1,12 +1,12 @@
 -- Where a key leads after a collection, while contents are exported and other keys are written.
 use Rattle.std.specs.Prelude.{◌≡◌, ◌⊎◌, ◌<◌, ◌^◌, ℕ, List, [], ◌∷◌, Option, None, Some, Result, Contains, IfSome, IsUtf8, filter_map}
-use Rattle.cacache_core.specs.{declared.{errors.Error.{Error}, integrity.digest.Hash.{Hash}}, Integrity.{IsIntegrity}, PathNames.{Names, home_of}}
+use Rattle.cacache_core.specs.{declared.{errors.Error.{Error}, integrity.digest.Hash.{Hash}}, Integrity.{IsIntegrity}, Paths.{Names, home_of}}
 use Rattle.cacache_store.specs.declared.store.{log.LogItem.{LogItem}, plain.PlainTemp.{PlainTemp}}
-use Rattle.cacache_disk.specs.memory.Replay.{IsLog}
+use Rattle.cacache_disk.specs.Replay.{IsLog}
 use Rattle.cacache_calls.specs.declared.command.Command.TheVariants as commands
 use Rattle.cacache_calls.specs.{declared.{command.{Delete.{Delete}, Export.{Export}, Insert.{Insert}, Put.{Put}, Source.{Source}}, reply.Reply.{Reply}}, Inserting.{insertion}, Sound.{FormedIfWritten}, State.{Site}}
 use Rattle.cacache_history.specs.History.{NamesIntegrity}
-use Rattle.cacache_laws.specs.{Beside.{FitsEntry, IsOther}, Caches.{IsCache, HasKey, Called}, ExportEffects.{IsApart}, GivenUp.{GivesUpTemp}, Keeping.{found_under}, OpenWriters.{CommitsBytes, IsOpened, OpensWriter}, Puts.{ExpectsIntegrity}}
+use Rattle.cacache_laws.specs.{Beside.{FitsEntry, IsOther, found_under}, Caches.{IsCache, HasKey, Called}, ExportEffects.{IsApart}, OpenWriters.{GivesUpTemp, CommitsBytes, IsOpened, OpensWriter}, Puts.{ExpectsIntegrity}}
 use Rattle.cacache_keep.specs.{declared.checking.OddLines.{OddLines}, Keeping.{Collects, StopsCollecting}, Kept.{LeavesTree}}
 
 -- ---- a collection

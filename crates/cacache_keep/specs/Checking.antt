@@ -4,7 +4,7 @@ use Rattle.cacache_core.specs.declared.errors.{Error.{Error}, Fault.TheVariants.
 use Rattle.cacache_store.specs.declared.store.answer.Answer.TheVariants as answers
 use Rattle.cacache_store.specs.{declared.store.log.LogItem.{LogItem}, Plain.{PlainStep, PlainAnswer}}
 use Rattle.cacache_store.specs.declared.store.step.Step.TheVariants as steps
-use Rattle.cacache_entry.specs.Latest.{Found}
+use Rattle.cacache_entry.specs.Bucket.{Found}
 use Rattle.cacache_calls.specs.{Common.{fails}, Runs.{EndsAs, Moves}, State.{Site}}
 use Rattle.cacache_laws.specs.trees.Compacting.{is_odd, lines_of}
 use Rattle.cacache_keep.specs.{declared.checking.OddLines.{OddLines, TheVariants.{Refuse, Ignore}}, Calls.{ListsEntries}}

@@ -1,5 +1,5 @@
 -- What a collection with options does, over any store.
-use Rattle.std.specs.Prelude.{◌≡◌, ◌⊎◌, ◌↔◌, ◌+◌, ◌-◌, ◌^◌, ℕ, List, Bool, Option, Some, Contains, length, map, min}
+use Rattle.std.specs.Prelude.{◌≡◌, ◌⊎◌, ◌↔◌, ◌+◌, ◌-◌, ◌^◌, ℕ, List, Bool, Option, Some, Result, Contains, IfErr, IfOk, length, map, min}
 use Rattle.cacache_core.specs.{declared.{errors.Error.{Error, TheVariants.{OutOfMemory}}, integrity.digest.Hash.{Hash}}, Integrity.{address}}
 use Rattle.cacache_store.specs.declared.store.log.LogItem.{LogItem}
 use Rattle.cacache_calls.specs.State.{Site}
@@ -42,7 +42,7 @@ pub record CollectsBy
 abbrev pub tally_of : Collection → Tally
 tally_of c = record { dropped = c.dropped; young = c.young; gone = c.gone }
 
--- so it is, and this tells it
+-- what neither an entry nor a further root names is removed, if it is old enough; a durable one syncs the index first
 abbrev pub CollectsAs :
     Told → Option ℕ → Site → Collection → Option (List LogItem) → Option (List LogItem) → Type 0
 CollectsAs told limit site c old new = CollectsBy told limit site c.kept (tally_of c) old new
@@ -74,3 +74,10 @@ StopsCollectingBy told limit site e old new =
     ⊎ ((live : ℕ) × (unused : List (List Hash)) × (chosen : Option (List LogItem))
     × (c : Chooses site live unused old chosen)
     × StopsChosen told limit site (odd_in c.listing.2.0) unused e chosen new)
+
+-- the log gained a collection with this result
+abbrev pub EndsCollecting : Told → Option ℕ → Site → Result Collection Error
+    → Option (List LogItem) → Option (List LogItem) → Type 0
+EndsCollecting told limit site r old new =
+    IfOk r (λ c. CollectsAs told limit site c old new)
+    × IfErr r (λ e. StopsCollectingBy told limit site e old new)

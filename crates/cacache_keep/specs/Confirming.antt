@@ -1,8 +1,8 @@
 -- Whether the keys of entries of the index lead to them, over any store.
 use Rattle.std.specs.Prelude.{◌≡◌, ◌++◌, ◌&&◌, All, List, ◌∷◌, Bool, true, false, Option, None, Some, map, nat_eq}
-use Rattle.cacache_core.specs.{declared.errors.{Error.{Error}, Fault.TheVariants.{Unsupported}}, Same.{same_hashes}}
+use Rattle.cacache_core.specs.{declared.errors.{Error.{Error}, Fault.TheVariants.{Unsupported}}, Comparing.{same_hashes}}
 use Rattle.cacache_store.specs.declared.store.log.LogItem.{LogItem}
-use Rattle.cacache_entry.specs.Latest.{Found}
+use Rattle.cacache_entry.specs.Bucket.{Found}
 use Rattle.cacache_calls.specs.{declared.{command.Command.{Command}, reply.Reply.{Reply}}, State.{Site}, Table.{opening}, Common.{fails}, Runs.{EndsAs, Ran, without_message}}
 use Rattle.cacache_calls.specs.declared.command.Command.TheVariants as commands
 use Rattle.cacache_calls.specs.declared.reply.Reply.TheVariants as replies

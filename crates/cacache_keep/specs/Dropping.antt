@@ -4,7 +4,7 @@ use Rattle.cacache_core.specs.declared.{errors.{Error.{Error}, Fault.TheVariants
 use Rattle.cacache_store.specs.declared.store.answer.Answer.TheVariants as answers
 use Rattle.cacache_store.specs.declared.store.log.LogItem.{LogItem}
 use Rattle.cacache_store.specs.declared.store.step.Step.TheVariants as steps
-use Rattle.cacache_calls.specs.{SingleSteps.{Does, FailsAt}, StepPaths.{content_path}}
+use Rattle.cacache_calls.specs.{SingleSteps.{Does, FailsAt}, Steps.{content_path}}
 use Rattle.cacache_keep.specs.{declared.{dropping.Tally.{Tally}, grace.Fate.{Fate, TheVariants.{Dropped, Young, Gone}}}, Emptying.{EmptiesBoth}, Grace.{JudgedBy}, Reading.{is_gone}, Rewriting.{folder_of}}
 
 -- ---- one content

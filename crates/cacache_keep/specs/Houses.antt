@@ -1,9 +1,9 @@
 -- What lies in its place stays there in a sweep and in a repair, on a store in memory.
 use Rattle.std.specs.Prelude.{◌≡◌, ℕ, List, Some}
-use Rattle.cacache_core.specs.{declared.integrity.digest.Hash.{Hash}, PathNames.{Names, home_of}}
+use Rattle.cacache_core.specs.{declared.integrity.digest.Hash.{Hash}, Paths.{Names, home_of}}
 use Rattle.cacache_store.specs.declared.store.log.LogItem.{LogItem}
-use Rattle.cacache_disk.specs.memory.Replay.{tree_of, IsLog}
-use Rattle.cacache_entry.specs.Latest.{Found}
+use Rattle.cacache_disk.specs.Replay.{tree_of, IsLog}
+use Rattle.cacache_entry.specs.Bucket.{Found}
 use Rattle.cacache_calls.specs.State.{Site}
 use Rattle.cacache_laws.specs.trees.{Contents.{content_in}, Housed.{Housed}}
 use Rattle.cacache_keep.specs.{Kept.{LeadsToGood}, Repairing.{RepairsCache}, Sweeping.{SweepsCache}}

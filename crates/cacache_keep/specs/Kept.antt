@@ -1,12 +1,12 @@
 -- What the calls come to on a store in memory.
 use Rattle.std.specs.Prelude.{◌≡◌, ◌⊎◌, ◌++◌, ℕ, List, [], ◌∷◌, Bool, Option, true, None, Some, Contains, filter, filter_map, map, not}
-use Rattle.cacache_core.specs.{declared.{errors.Error.{Error}, integrity.digest.Hash.{Hash}}, Integrity.{address as address_of}, PathLaws.{IsKeyDigest}, PathNames.{Names, home_of}, Paths.{bucket_names_of}}
+use Rattle.cacache_core.specs.{declared.{errors.Error.{Error}, integrity.digest.Hash.{Hash}}, Integrity.{address as address_of}, Laws.{IsKeyDigest}, Paths.{Names, home_of, bucket_names_of}}
 use Rattle.cacache_store.specs.declared.store.log.LogItem.{LogItem}
-use Rattle.cacache_disk.specs.{declared.node.Node.TheVariants.{File}, Tree.{Tree, look}, memory.Replay.{tree_of, IsLog}}
-use Rattle.cacache_entry.specs.Latest.{Found}
+use Rattle.cacache_disk.specs.{declared.node.Node.TheVariants.{File}, Tree.{Tree, look}, Replay.{tree_of, IsLog}}
+use Rattle.cacache_entry.specs.Bucket.{Found}
 use Rattle.cacache_calls.specs.{declared.{command.Command.{Command}, reply.Reply.{Reply}}, State.{Site}}
 use Rattle.cacache_value.specs.Placed.{Placed}
-use Rattle.cacache_laws.specs.{Caches.{Called}, Looks.{OnlyLooks}, trees.{Compacted.{Compacted, CutShort, KeepsFound}, Compacting.{compact_text}, Contents.{HoldsJust, content_in}, Housed.{Housed}, Verifying.{Judges, is_good}, Collecting.{LeavesLive, LinksLeadOut, ReadsAsBefore}, Idle.{LacksIdle, Removed}, Mending.{LeavesGood, found_in}, Temporary.{LeavesUntemporary}}}
+use Rattle.cacache_laws.specs.{Caches.{Called}, Looks.{OnlyLooks}, trees.{Compacted.{Compacted, CutShort, KeepsFound}, Compacting.{compact_text}, Contents.{HoldsJust, content_in}, Housed.{Housed}, Verifying.{Judges, is_good, LeavesGood, found_in}, Collecting.{LeavesLive, LinksLeadOut, ReadsAsBefore}, Idle.{LacksIdle, Removed}, Temporary.{LeavesUntemporary}}}
 use Rattle.cacache_walks.specs.Listing.{IsByHash, ListsContents}
 use Rattle.cacache_keep.specs.{Compacting.{CompactsCache, StopsCompacting}, Keeping.{Collects, VerifiesCache}, Planning.{PlansCache, Sized}, Repairing.{RepairsCache}, Sweeping.{SweepsCache}}
 

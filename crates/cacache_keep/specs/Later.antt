@@ -1,10 +1,10 @@
 -- Where a key leads after a collection of any store that stands, and after later calls that spare it.
 use Rattle.std.specs.Prelude.{◌≡◌, ℕ, List, Option, Some, Contains, filter_map}
-use Rattle.cacache_core.specs.{declared.{errors.Error.{Error}, integrity.digest.Hash.{Hash}}, PathNames.{Names, home_of}}
+use Rattle.cacache_core.specs.{declared.{errors.Error.{Error}, integrity.digest.Hash.{Hash}}, Paths.{Names, home_of}}
 use Rattle.cacache_store.specs.declared.store.log.LogItem.{LogItem}
-use Rattle.cacache_disk.specs.memory.Replay.{IsLog}
+use Rattle.cacache_disk.specs.Replay.{IsLog}
 use Rattle.cacache_calls.specs.State.{Site}
-use Rattle.cacache_laws.specs.{Caches.{HasContent, HasKey}, Keeping.{found_under}, Standing.{IsStanding}, trees.Later.{AllSpare, Later, StaysRead, written}}
+use Rattle.cacache_laws.specs.{Caches.{HasContent, HasKey}, Beside.{found_under}, Standing.{IsStanding}, trees.Later.{AllSpare, Later, StaysRead, written}}
 use Rattle.cacache_keep.specs.{declared.dropping.Tally.{Tally}, Collecting.{CollectsBy, StopsCollectingBy, Told}, Keeping.{Collects}}
 
 -- the log gained a collection

@@ -1,6 +1,6 @@
 -- Which entries are dropped so that the others keep within limits.
 use Rattle.std.specs.{Prelude.{◌≡◌, ◌++◌, ◌≤◌, All, IfSome, ℕ, List, [], ◌∷◌, Option, map}, declared.cmp.Ordering.{Ordering}, Ordering.{nat_cmp, on, then_cmp}, Cmp.Lexicographic.{slice_cmp}, List.{sum, Sorted.{IsPermutation, IsSorted}}}
-use Rattle.cacache_entry.specs.{Latest.{Found}, View.{found_view}}
+use Rattle.cacache_entry.specs.{Bucket.{Found}, View.{found_view}}
 use Rattle.cacache_laws.specs.trees.Temporary.{total}
 use Rattle.cacache_keep.specs.declared.{limits.{Choice.{Choice}, Limits.{Limits}}, weighing.Weighed.{Weighed}}
 

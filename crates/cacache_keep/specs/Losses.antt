@@ -1,14 +1,14 @@
 -- What a loss of power leaves of the buckets that a compaction wrote anew.
 use Rattle.std.specs.Prelude.{◌≡◌, ◌⊎◌, ◌++◌, ℕ, List, [], ◌∷◌, Bool, Option, None, Some, true}
 use Rattle.sha1.specs.Sha1.{sha1}
-use Rattle.cacache_core.specs.{declared.errors.Error.{Error}, PathLaws.{IsKeyDigest}, PathNames.{Names, home_of}, Paths.{bucket_names_of}}
+use Rattle.cacache_core.specs.{declared.errors.Error.{Error}, Laws.{IsKeyDigest}, Paths.{Names, home_of, bucket_names_of}}
 use Rattle.cacache_store.specs.declared.store.log.LogItem.{LogItem}
-use Rattle.cacache_disk.specs.{declared.node.Node.TheVariants.{File}, Tree.{Tree, look}, memory.Replay.{tree_of, IsLog}}
-use Rattle.cacache_entry.specs.{Bucket.{entries_of}, Latest.{Found, latest}}
+use Rattle.cacache_disk.specs.{declared.node.Node.TheVariants.{File}, Tree.{Tree, look}, Replay.{tree_of, IsLog}}
+use Rattle.cacache_entry.specs.Bucket.{entries_of, Found, latest}
 use Rattle.cacache_calls.specs.Runs.{Gains, Moves}
-use Rattle.cacache_laws.specs.{Sequence.{plain_moves}, trees.{Compacting.{compact_text}, Mending.{found_in}}}
-use Rattle.cacache_value.specs.{Placed.{Placed}, Traces.{Move}}
-use Rattle.cacache_loss.specs.{CalmMoves.{AreCalm}, Fixing.{Fixed}, Loss.{Loss}, LossLaws.{BeginsWith, FindsOrLater}, LostValues.{LeftOf}, Moments.{EachMove, Moment, after}, Syncs.{Leaves}}
+use Rattle.cacache_laws.specs.{Sequence.{plain_moves}, trees.{Compacting.{compact_text}, Verifying.{found_in}}}
+use Rattle.cacache_value.specs.{Placed.{Placed}, Acts.{Move}}
+use Rattle.cacache_loss.specs.{Moments.{AreCalm, EachMove, Moment, after}, Fixing.{Fixed}, Loss.{Loss}, LossLaws.{BeginsWith, FindsOrLater}, LostValues.{LeftOf}, Syncs.{Leaves}}
 use Rattle.cacache_keep.specs.Compacting.{CompactsCache, StopsCompacting}
 
 -- the moment after these moves, from a tree that had so much fixed

@@ -2,7 +2,7 @@
 use Rattle.std.specs.{Prelude.{◌≡◌, ◌⊎◌, ◌&&◌, ℕ, List, [], ◌∷◌, Bool, false, Option, codes, drop, length, map, not, take}, Bool.{nat_eq}, Cmp.Lexicographic.{pointwise}, List.{list_any, starts_with}}
 use Rattle.cacache_core.specs.declared.{errors.{Error.{Error, TheVariants.{OutOfMemory}}, Fault.TheVariants.{Device}}, integrity.digest.Hash.{Hash}}
 use Rattle.cacache_store.specs.declared.store.log.LogItem.{LogItem}
-use Rattle.cacache_calls.specs.{Common.{fails}, Runs.{EndsAs}, StepPaths.{content_path}}
+use Rattle.cacache_calls.specs.{Common.{fails}, Runs.{EndsAs}, Steps.{content_path}}
 use Rattle.cacache_walks.specs.Listing.{ListsContents, StopsListing}
 use Rattle.cacache_keep.specs.Calls.{has_address_in}
 

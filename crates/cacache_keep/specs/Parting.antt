@@ -1,11 +1,11 @@
 -- How the keys of entries are dropped, also if there may be no room for a tombstone, over any store.
 use Rattle.std.specs.{Prelude.{◌≡◌, ◌⊎◌, ◌++◌, ◌<◌, ◌^◌, ◌&&◌, IsUtf8, ℕ, List, [], ◌∷◌, Bool, true, false, Option, None, Some, Result, Ok, Err, bytes_eq, filter, map, not}, List.{list_any}}
-use Rattle.cacache_core.specs.{declared.errors.{Error.{Error, TheVariants.{OutOfMemory}}, Fault.{Fault, TheVariants.{Device, ShortAppend, WriteZero}}}, Contexts.{fault_in}}
+use Rattle.cacache_core.specs.{declared.errors.{Error.{Error, TheVariants.{OutOfMemory}}, Fault.{Fault, TheVariants.{Device, ShortAppend, WriteZero}}}, Errors.{fault_in}}
 use Rattle.cacache_store.specs.declared.store.answer.Answer.TheVariants as answers
 use Rattle.cacache_store.specs.declared.store.log.LogItem.{LogItem}
 use Rattle.cacache_store.specs.declared.store.step.Step.TheVariants as steps
-use Rattle.cacache_entry.specs.{Bucket.{entries_of}, Latest.{Found, latest}}
-use Rattle.cacache_calls.specs.{declared.reply.Reply.{Reply}, Runs.{Ran, without_message}, SingleSteps.{Does, FailsAt}, State.{Site}, StepPaths.{bucket_path}, Table.{opening}}
+use Rattle.cacache_entry.specs.Bucket.{entries_of, Found, latest}
+use Rattle.cacache_calls.specs.{declared.reply.Reply.{Reply}, Runs.{Ran, without_message}, SingleSteps.{Does, FailsAt}, State.{Site}, Steps.{bucket_path}, Table.{opening}}
 use Rattle.cacache_calls.specs.declared.reply.Reply.TheVariants as replies
 use Rattle.cacache_laws.specs.trees.Compacting.{Line, lines_of}
 use Rattle.cacache_keep.specs.{Confirming.{is_led}, Repairing.{tombstone}, Rewriting.{StopsSecuring, SyncsFolder}}

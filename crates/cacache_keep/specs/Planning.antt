@@ -4,7 +4,7 @@ use Rattle.cacache_core.specs.declared.{errors.{Error.{Error, TheVariants.{OutOf
 use Rattle.cacache_store.specs.declared.store.answer.Answer.TheVariants as answers
 use Rattle.cacache_store.specs.declared.store.log.LogItem.{LogItem}
 use Rattle.cacache_store.specs.declared.store.step.Step.TheVariants as steps
-use Rattle.cacache_calls.specs.{SingleSteps.{Does, FailsAt}, State.{Site}, StepPaths.{content_path}}
+use Rattle.cacache_calls.specs.{SingleSteps.{Does, FailsAt}, State.{Site}, Steps.{content_path}}
 use Rattle.cacache_keep.specs.{declared.planning.Unused.{Unused}, Keeping.{Chooses, StopsEarly}, Reading.{is_gone}}
 
 -- ---- sizes of contents, one after another

@@ -1,11 +1,11 @@
 -- What a pruning does, over any store.
 use mathlib.Core.Logic.{inl, inr}
-use Rattle.std.specs.{Prelude.{◌≡◌, ◌⊎◌, ◌++◌, ℕ, List, [], Option, map, take}, List.Sorted.{IsPermutation}}
+use Rattle.std.specs.{Prelude.{◌≡◌, ◌⊎◌, ◌++◌, ℕ, List, [], Bool, Option, Result, map, take}, List.Sorted.{IsPermutation}}
 use Rattle.cacache_core.specs.declared.errors.Error.{Error}
 use Rattle.cacache_store.specs.declared.store.log.LogItem.{LogItem}
-use Rattle.cacache_entry.specs.{Latest.{Found}, View.{found_view}}
+use Rattle.cacache_entry.specs.{Bucket.{Found}, View.{found_view}}
 use Rattle.cacache_calls.specs.State.{Site}
-use Rattle.cacache_keep.specs.{declared.{checking.OddLines.TheVariants.{Refuse}, collecting.Collection.{Collection}, limits.Limits.{Limits}, pruning.{PrunePlan.{PrunePlan}, Pruned.{Pruned}}}, Calls.{StopsIndex}, Checking.{ReadsIndex, RefusesOdd}, Collecting.{CollectsAs, StopsCollectingBy, Told}, Confirming.{Confirms, StopsConfirming}, Limits.{DropsOldest, Weight, entries_in, told_bytes}, Parting.{Parts, StopsParting, parted}, Weighing.{StopsWeighing, Weighs}}
+use Rattle.cacache_keep.specs.{declared.{checking.OddLines.TheVariants.{Refuse}, collecting.Collection.{Collection}, limits.Limits.{Limits}, pruning.{PrunePlan.{PrunePlan}, Pruned.{Pruned}}}, Calls.{StopsIndex}, Checking.{ReadsIndex, RefusesOdd}, Collecting.{EndsCollecting, Told}, Confirming.{Confirms, StopsConfirming}, Limits.{DropsOldest, Weight, entries_in, told_bytes}, Parting.{Parts, StopsParting, parted}, Weighing.{StopsWeighing, Weighs}}
 
 -- ---- plans
 
@@ -40,20 +40,19 @@ StopsPrunePlan site e old new =
 
 -- ---- a pruning
 
--- The index is listed, and has no odd line. Of its entries some are to be dropped, and the others are kept. The
--- key of each of the first is looked up, and leads to it. Then these keys are dropped, the oldest first,
--- unless they are left. Then the cache is collected as it is told
+-- The index is listed, and has no odd line. The keys of the entries to drop are looked up, and lead to them. Then they
+-- are dropped, the oldest first, unless they are left. Then the cache is collected as it is told
 pub record PrunesCache
     (limits : Limits) (told : Told) (limit : Option ℕ) (site : Site) (entries : List Found)
-    (dropped kept : List Weight) (gone left : List Found) (c : Collection)
-    (old new : Option (List LogItem)) : Type 0 where
+    (dropped kept : List Weight) (gone left : List Found)
+    (c : Result Collection Error) (old new : Option (List LogItem)) : Type 0 where
   pub listed : Option (List LogItem)
   pub planning : PlansPrune limits site entries dropped kept [] old listed
   pub confirmed : Option (List LogItem)
   pub confirms : Confirms site (entries_in dropped) listed confirmed
   pub settled : Option (List LogItem)
   pub parts : Parts told.durable site (entries_in dropped) gone left confirmed settled
-  pub collects : CollectsAs told limit site c settled new
+  pub collects : EndsCollecting told limit site c settled new
 
 -- so it did, and this tells it
 abbrev pub PrunesAs : Limits → Told → Option ℕ → Site → Pruned
@@ -66,52 +65,40 @@ PrunesAs limits told limit site p old new =
 
 -- ---- errors
 
--- the error came while the keys of these entries were dropped, or it ended the collection after that
-abbrev pub StopsMarking : Told → Option ℕ → Site → List Found → Error
+-- of a cache without odd lines the error ended the lookups of the keys of these entries; or memory ran out while
+-- the keys were dropped
+abbrev pub StopsCleanPruning : Bool → Site → List Found → Error
     → Option (List LogItem) → Option (List LogItem) → Type 0
-StopsMarking told limit site dropped e old new =
-    StopsParting told.durable site dropped e old new
-    ⊎ ((gone left : List Found) × (settled : Option (List LogItem))
-    × Parts told.durable site dropped gone left old settled
-    × StopsCollectingBy told limit site e settled new)
-
--- of one without odd lines it ended the lookups of the keys of these entries, or what came after
-abbrev pub StopsCleanPruning : Told → Option ℕ → Site → List Found → Error
-    → Option (List LogItem) → Option (List LogItem) → Type 0
-StopsCleanPruning told limit site dropped e old new =
+StopsCleanPruning durable site dropped e old new =
     StopsConfirming site dropped e old new
     ⊎ ((confirmed : Option (List LogItem)) × Confirms site dropped old confirmed
-    × StopsMarking told limit site dropped e confirmed new)
+    × StopsParting durable site dropped e confirmed new)
 
--- of a cache that is planned so, the error refused the odd lines before anything changed; or it
--- ended the lookups of the keys of the entries that are dropped, or what came after them
-abbrev pub StopsPruningAfter : Told → Option ℕ → Site → List Found → List (List ℕ) → Error
+-- of one that is planned so it refused the odd lines before anything changed; or it came later
+abbrev pub StopsPruningAfter : Bool → Site → List Found → List (List ℕ) → Error
     → Option (List LogItem) → Option (List LogItem) → Type 0
-StopsPruningAfter told limit site dropped odd e old new =
+StopsPruningAfter durable site dropped odd e old new =
     (RefusesOdd Refuse odd e × (new ≡ old))
-    ⊎ ((odd ≡ []) × StopsCleanPruning told limit site dropped e old new)
+    ⊎ ((odd ≡ []) × StopsCleanPruning durable site dropped e old new)
 
 -- the error ended the plan, or what came after it
-abbrev pub StopsPruning : Limits → Told → Option ℕ → Site → Error
+abbrev pub StopsPruning : Limits → Bool → Site → Error
     → Option (List LogItem) → Option (List LogItem) → Type 0
-StopsPruning limits told limit site e old new =
+StopsPruning limits durable site e old new =
     StopsPrunePlan site e old new
     ⊎ ((entries : List Found) × (dropped kept : List Weight) × (odd : List (List ℕ))
     × (listed : Option (List LogItem))
     × PlansPrune limits site entries dropped kept odd old listed
-    × StopsPruningAfter told limit site (entries_in dropped) odd e listed new)
+    × StopsPruningAfter durable site (entries_in dropped) odd e listed new)
 
 -- the entries whose keys were dropped before that, or may have been
-abbrev pub marked_in : (limits : Limits) (told : Told) (limit : Option ℕ) (site : Site) (e : Error)
-    (old new : Option (List LogItem)) → StopsPruning limits told limit site e old new → List Found
-marked_in limits told limit site e old new (inl plan) = []
-marked_in limits told limit site e old new
+abbrev pub marked_in : (limits : Limits) (durable : Bool) (site : Site) (e : Error)
+    (old new : Option (List LogItem)) → StopsPruning limits durable site e old new → List Found
+marked_in limits durable site e old new (inl plan) = []
+marked_in limits durable site e old new
     (inr (entries, dropped, kept, odd, listed, plan, inl refused)) = []
-marked_in limits told limit site e old new
+marked_in limits durable site e old new
     (inr (entries, dropped, kept, odd, listed, plan, inr (none, inl confirming))) = []
-marked_in limits told limit site e old new
-    (inr (entries, dropped, kept, odd, listed, plan, inr (none, inr (confirmed, leads, inl stop)))) =
+marked_in limits durable site e old new
+    (inr (entries, dropped, kept, odd, listed, plan, inr (none, inr (confirmed, leads, stop)))) =
     parted stop.done ++ take 1 stop.rest
-marked_in limits told limit site e old new
-    (inr (entries, dropped, kept, odd, listed, plan, inr (none, inr (confirmed, leads, inr late)))) =
-    entries_in dropped

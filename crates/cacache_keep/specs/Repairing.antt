@@ -2,7 +2,7 @@
 use Rattle.std.specs.{Prelude.{if◌then◌else◌, ◌≡◌, ◌⊎◌, ◌++◌, ◌<◌, ◌^◌, All, IsUtf8, ℕ, List, [], ◌∷◌, Bool, true, false, Option, None, Some, filter, map, not}, List.{flat_map}}
 use Rattle.cacache_core.specs.declared.{errors.Error.{Error}, integrity.digest.Hash.{Hash}}
 use Rattle.cacache_store.specs.declared.store.log.LogItem.{LogItem}
-use Rattle.cacache_entry.specs.Latest.{Found}
+use Rattle.cacache_entry.specs.Bucket.{Found}
 use Rattle.cacache_calls.specs.{declared.{command.Command.{Command}, reply.Reply.{Reply}}, State.{Site}, Table.{opening}, Runs.{Ran, without_message}}
 use Rattle.cacache_calls.specs.declared.command.Command.TheVariants as commands
 use Rattle.cacache_calls.specs.declared.reply.Reply.TheVariants as replies

@@ -5,7 +5,7 @@ use Rattle.cacache_core.specs.declared.errors.Fault.TheVariants as faults
 use Rattle.cacache_store.specs.declared.store.answer.Answer.TheVariants as answers
 use Rattle.cacache_store.specs.declared.store.{log.LogItem.{LogItem}, plain.PlainTemp.{PlainTemp}}
 use Rattle.cacache_store.specs.declared.store.step.Step.TheVariants as steps
-use Rattle.cacache_calls.specs.{Common.{fails}, Runs.{EndsAs, Gains, Moves}, SingleSteps.{Does, FailsAt}, StepPaths.{temp_folder, temp_path}}
+use Rattle.cacache_calls.specs.{Common.{fails}, Runs.{EndsAs, Gains, Moves}, SingleSteps.{Does, FailsAt}, Steps.{temp_folder, temp_path}}
 
 -- ---- the temporary file
 

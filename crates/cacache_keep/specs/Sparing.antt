@@ -1,11 +1,11 @@
 -- Where a key leads after a pruning of any store in memory that stands.
-use Rattle.std.specs.Prelude.{◌≡◌, ℕ, List, Option, Some, Contains, map}
-use Rattle.cacache_core.specs.{declared.{errors.Error.{Error}, integrity.digest.Hash.{Hash}}, PathNames.{Names, home_of}}
+use Rattle.std.specs.Prelude.{◌≡◌, ℕ, List, Bool, Option, Result, Some, Contains, map}
+use Rattle.cacache_core.specs.{declared.{errors.Error.{Error}, integrity.digest.Hash.{Hash}}, Paths.{Names, home_of}}
 use Rattle.cacache_store.specs.declared.store.log.LogItem.{LogItem}
-use Rattle.cacache_disk.specs.memory.Replay.{IsLog}
-use Rattle.cacache_entry.specs.Latest.{Found}
+use Rattle.cacache_disk.specs.Replay.{IsLog}
+use Rattle.cacache_entry.specs.Bucket.{Found}
 use Rattle.cacache_calls.specs.State.{Site}
-use Rattle.cacache_laws.specs.{Caches.{HasKey, LacksKey}, Keeping.{found_under}, Standing.{IsStanding}}
+use Rattle.cacache_laws.specs.{Caches.{HasKey, LacksKey}, Beside.{found_under}, Standing.{IsStanding}}
 use Rattle.cacache_keep.specs.{declared.{collecting.Collection.{Collection}, limits.Limits.{Limits}}, Collecting.{Told}, Confirming.{Leads}, Kept.{LeavesTree}, Limits.{Weight, entries_in}, Pruning.{PlansPrune, PrunesCache, StopsPruning, marked_in}}
 
 -- everything stands where it may still; the key leads to the entry that it led to, and to the same
@@ -32,7 +32,7 @@ PrunePlansLeave =
 abbrev pub PrunesSpareKeys : Type 0
 PrunesSpareKeys =
     (limits : Limits) (told : Told) (limit : Option ℕ) (site : Site) (home : Names)
-    (entries gone left : List Found) (dropped kept : List Weight) (c : Collection)
+    (entries gone left : List Found) (dropped kept : List Weight) (c : Result Collection Error)
     (key bytes : List ℕ) (i : List Hash) (old new : List LogItem)
     → home_of site.cache ≡ Some home → IsLog new → IsStanding site.cache old
     → PrunesCache limits told limit site entries dropped kept gone left c (Some old) (Some new)
@@ -43,7 +43,7 @@ PrunesSpareKeys =
 abbrev pub PrunesDropKeys : Type 0
 PrunesDropKeys =
     (limits : Limits) (told : Told) (limit : Option ℕ) (site : Site) (home : Names)
-    (entries gone left : List Found) (dropped kept : List Weight) (c : Collection)
+    (entries gone left : List Found) (dropped kept : List Weight) (c : Result Collection Error)
     (key : List ℕ) (old new : List LogItem)
     → home_of site.cache ≡ Some home → IsLog new → IsStanding site.cache old
     → PrunesCache limits told limit site entries dropped kept gone left c (Some old) (Some new)
@@ -54,7 +54,7 @@ PrunesDropKeys =
 abbrev pub PrunesDropLed : Type 0
 PrunesDropLed =
     (limits : Limits) (told : Told) (limit : Option ℕ) (site : Site) (home : Names)
-    (entries gone left : List Found) (dropped kept : List Weight) (c : Collection)
+    (entries gone left : List Found) (dropped kept : List Weight) (c : Result Collection Error)
     (entry : Found) (old new : List LogItem)
     → home_of site.cache ≡ Some home → IsLog new → IsStanding site.cache old
     → PrunesCache limits told limit site entries dropped kept gone left c (Some old) (Some new)
@@ -63,9 +63,9 @@ PrunesDropLed =
 -- after one that an error ended each key leads where it led, unless it was dropped, or may have been
 abbrev pub StoppedPrunesSpareKeys : Type 0
 StoppedPrunesSpareKeys =
-    (limits : Limits) (told : Told) (limit : Option ℕ) (site : Site) (home : Names) (e : Error)
+    (limits : Limits) (durable : Bool) (site : Site) (home : Names) (e : Error)
     (key bytes : List ℕ) (i : List Hash) (old new : List LogItem)
     → home_of site.cache ≡ Some home → IsLog new → IsStanding site.cache old
-    → (stop : StopsPruning limits told limit site e (Some old) (Some new))
-    → (HasKeyAmong (marked_in limits told limit site e (Some old) (Some new) stop) key → ⊥)
+    → (stop : StopsPruning limits durable site e (Some old) (Some new))
+    → (HasKeyAmong (marked_in limits durable site e (Some old) (Some new) stop) key → ⊥)
     → HasKey site.cache key i bytes old → StaysLed site.cache key i bytes old new

@@ -6,7 +6,7 @@ use Rattle.cacache_store.specs.declared.store.answer.Kind.TheVariants as kinds
 use Rattle.cacache_store.specs.{declared.store.{answer.{Kind.{Kind}, Name.{Name}}, log.LogItem.{LogItem}}, Plain.{PlainAnswer}}
 use Rattle.cacache_store.specs.declared.store.step.Step.TheVariants as steps
 use Rattle.cacache_calls.specs.{Runs.{Gains}, SingleSteps.{Does, FailsAt}}
-use Rattle.cacache_walks.specs.WalkSteps.{AnswerShows}
+use Rattle.cacache_walks.specs.WalkStates.{AnswerShows}
 use Rattle.cacache_laws.specs.trees.Temporary.{area_of, cache_folder, is_temporary, sized_removals, temp_area_in, total}
 use Rattle.cacache_keep.specs.Reading.{is_gone}
 

@@ -1,7 +1,7 @@
 -- What the calls' values say about their logs.
 use Rattle.std.specs.Prelude.{◌≡◌, ℕ, List, Option, map, string_bytes}
 use Rattle.cacache_store.specs.declared.store.log.LogItem.{LogItem}
-use Rattle.cacache_entry.specs.{Latest.{Found}, View.{found_view}, declared.metadata.Metadata.{Metadata}}
+use Rattle.cacache_entry.specs.{Bucket.{Found}, View.{found_view}, declared.metadata.Metadata.{Metadata}}
 use Rattle.cacache_calls.specs.State.{Site}
 use Rattle.cacache_keep.specs.{declared.{checking.OddLines.{OddLines}, planning.Planned.{Planned}, repairing.Repaired.{Repaired}, sweeping.Swept.{Swept}, verifying.Verdict.{Verdict}}, Calls.{AsksEach}, Checking.{odd_in}, Keeping.{VerifiesCache}, Planning.{PlansCache, sized_of}, Reading.{Judged, damaged_bytes_of, good_bytes_of}, Missing.{Look}, Repairing.{BuriesAll, BuriesEach, RepairsFrom, RepairsWith}, Sweeping.{SweepsCache}}
 

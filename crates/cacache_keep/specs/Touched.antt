@@ -2,10 +2,10 @@
 use Rattle.std.specs.Prelude.{◌≡◌, ℕ, List, Bool, Option, Some, Result, IfOk, IfErr, OnOk}
 use Rattle.cacache_core.specs.declared.{errors.Error.{Error}, integrity.digest.Hash.{Hash}}
 use Rattle.cacache_store.specs.declared.{env.Env.{Env}, store.log.LogItem.{LogItem}}
-use Rattle.cacache_disk.specs.memory.Replay.{tree_of}
-use Rattle.cacache_entry.specs.Latest.{Found}
-use Rattle.cacache_jobs.specs.{Environment.{AsksMoment}, Sites.{site_of}}
-use Rattle.cacache_laws.specs.{Caches.{HasKey, IsCache, LacksKey}, Keeping.{KeepsOthers, found_under}}
+use Rattle.cacache_disk.specs.Replay.{tree_of}
+use Rattle.cacache_entry.specs.Bucket.{Found}
+use Rattle.cacache_jobs.specs.{Environment.{AsksMoment}, JobStates.{site_of}}
+use Rattle.cacache_laws.specs.{Caches.{HasKey, IsCache, LacksKey}, Beside.{KeepsOthers, found_under}}
 use Rattle.cacache_keep.specs.Touching.{StopsTouching, Touches, is_found}
 
 -- the entry, with another moment

@@ -4,12 +4,12 @@ use Rattle.cacache_core.specs.declared.errors.{Error.{Error, TheVariants.{OutOfM
 use Rattle.cacache_store.specs.declared.store.answer.Answer.TheVariants as answers
 use Rattle.cacache_store.specs.declared.store.step.Step.TheVariants as steps
 use Rattle.cacache_store.specs.declared.{env.Env.{Env}, store.log.LogItem.{LogItem}}
-use Rattle.cacache_entry.specs.Latest.{Found}
-use Rattle.cacache_calls.specs.{declared.command.Command.{Command}, Common.{fails}, SingleSteps.{Does, FailsAt}, State.{Site}, StepPaths.{bucket_path}, Table.{opening}, Runs.{EndsAs, Ran, without_message}}
+use Rattle.cacache_entry.specs.Bucket.{Found}
+use Rattle.cacache_calls.specs.{declared.command.Command.{Command}, Common.{fails}, SingleSteps.{Does, FailsAt}, State.{Site}, Steps.{bucket_path}, Table.{opening}, Runs.{EndsAs, Ran, without_message}}
 use Rattle.cacache_calls.specs.declared.command.Command.TheVariants as commands
 use Rattle.cacache_calls.specs.declared.reply.Reply.TheVariants as replies
-use Rattle.cacache_jobs.specs.{Environment.{AsksMoment}, Sites.{site_of}}
-use Rattle.cacache_sync.specs.put.{Options.{Said, nothing_said}, Puts.{insert_of}}
+use Rattle.cacache_jobs.specs.{Environment.{AsksMoment}, JobStates.{site_of}}
+use Rattle.cacache_sync.specs.put.KeyedWriters.{Said, nothing_said, insert_of}
 use Rattle.cacache_keep.specs.Checking.{has_odd}
 
 -- what an entry says of its content, as options

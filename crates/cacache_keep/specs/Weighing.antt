@@ -2,8 +2,8 @@
 use Rattle.std.specs.{Prelude.{◌≡◌, ◌⊎◌, ◌++◌, ◌||◌, ℕ, List, [], ◌∷◌, Bool, true, false, Option, bytes_eq, is_some, map, not, reverse}, BTreeMap.{BTreeMap, get}, Cmp.Lexicographic.{slice_cmp}, Ordering.{nat_cmp}}
 use Rattle.cacache_core.specs.declared.errors.Error.{Error, TheVariants.{OutOfMemory}}
 use Rattle.cacache_store.specs.declared.store.log.LogItem.{LogItem}
-use Rattle.cacache_entry.specs.Latest.{Found}
-use Rattle.cacache_calls.specs.StepPaths.{content_path}
+use Rattle.cacache_entry.specs.Bucket.{Found}
+use Rattle.cacache_calls.specs.Steps.{content_path}
 use Rattle.cacache_keep.specs.{declared.weighing.Weighed.{Weighed}, Limits.{Weight, entries_in, weight_of}, Planning.{HidesSize, TellsSize}}
 
 -- ---- paths that were asked for

@@ -1,6 +1,6 @@
 //! Entries whose content isn't there.
 ghost use Rattle.std.specs.Prelude.{IfOk, IfErr};
-ghost use Rattle.cacache_jobs.specs.{Environment.{KeepsRest}, Sites.{site_of}};
+ghost use Rattle.cacache_jobs.specs.{Environment.{KeepsRest}, JobStates.{site_of}};
 ghost use Rattle.cacache_keep.specs.{Calls.{StopsQuestions}, Told.{AsksAs}};
 
 use cacache_calls::Found;

@@ -1,7 +1,7 @@
 //! Tombstones for keys that lead to no content.
 ghost use Rattle.std.specs.Prelude.{◌≡◌, IfOk, IfErr, map};
 ghost use Rattle.cacache_entry.specs.View.{found_view};
-ghost use Rattle.cacache_jobs.specs.{Environment.{KeepsRest}, Sites.{site_of}};
+ghost use Rattle.cacache_jobs.specs.{Environment.{KeepsRest}, JobStates.{site_of}};
 ghost use Rattle.cacache_keep.specs.{Repairing.{AsksFor, BuriesKey, LooksUp, StopsAsking, StopsBurying, StopsBuryingAll, StopsFate, StopsLooking}, Told.{BuriesAllAs, BuriesAs}};
 
 use crate::missing::{Shown, confirm, look};

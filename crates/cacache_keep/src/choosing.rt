@@ -1,6 +1,6 @@
 //! The contents that no entry has.
 ghost use Rattle.std.specs.Prelude.{IfOk, IfErr};
-ghost use Rattle.cacache_jobs.specs.{Environment.{KeepsRest}, Sites.{site_of}};
+ghost use Rattle.cacache_jobs.specs.{Environment.{KeepsRest}, JobStates.{site_of}};
 ghost use Rattle.cacache_keep.specs.Keeping.{ChoosesAs, StopsEarly};
 
 use crate::index::{Index, read_index};

@@ -1,6 +1,6 @@
 //! The calls that remove what no entry has.
 ghost use Rattle.std.specs.Prelude.{◌≡◌, ℕ, [], None, Some, Option, IfOk, IfErr, false};
-ghost use Rattle.cacache_jobs.specs.{Environment.{KeepsRest}, Sites.{site_of}};
+ghost use Rattle.cacache_jobs.specs.{Environment.{KeepsRest}, JobStates.{site_of}};
 ghost use Rattle.cacache_keep.specs.{declared.checking.OddLines.TheVariants.{Refuse}, Collecting.{CollectsAs, StopsCollectingBy, told_by}, Grace.{LimitedBy}, Keeping.{CollectsWith, StopsCollecting}};
 
 use crate::checking::{OddLines, check};
@@ -24,20 +24,19 @@ pub struct Collected {
     pub dropped: Vec<Integrity>,
 }
 
-/// Collects a cache as `collect_with` does, and leaves the walk open.
-pub(crate) fn collect_open<S: Store, C: Clock, N: Names>(
+/// Collects a cache as `collect` does, and leaves the walk open.
+fn collect_open<S: Store, C: Clock, N: Names>(
     env: &mut Env<S, C, N>,
     cache: &str,
-    odd: OddLines,
 ) -> Result<Collected>
-    ensures collects { IfOk result (λ c. CollectsWith odd (site_of cache.now env.old.base 0)
+    ensures collects { IfOk result (λ c. CollectsWith Refuse (site_of cache.now env.old.base 0)
         c.kept c.dropped.items (S.log env.old.store) (S.log env.new.store)) }
-    ensures stops { IfErr result (λ e. StopsCollecting odd (site_of cache.now env.old.base 0) e
+    ensures stops { IfErr result (λ e. StopsCollecting Refuse (site_of cache.now env.old.base 0) e
         (S.log env.old.store) (S.log env.new.store)) }
     ensures rest { KeepsRest env.old env.new }
 {
     let chosen = choose(env, cache)?;
-    check(env.alloc, odd, chosen.odd.as_slice())?;
+    check(env.alloc, OddLines::Refuse, chosen.odd.as_slice())?;
     let Chosen {
         kept,
         dropped,
@@ -45,28 +44,6 @@ pub(crate) fn collect_open<S: Store, C: Clock, N: Names>(
     } = chosen;
     remove_each(env, cache, dropped.as_slice())?;
     Ok(Collected { kept, dropped })
-}
-
-/// Collects a cache as `collect` does, with the choice what is done about odd lines in its index. With `OddLines::Ignore`
-/// a content that only such a line names is removed, though another reader may need it.
-///
-/// Errors are those of `collect`, with `OddLines::Ignore` without the one about odd lines.
-pub fn collect_with<S: Store, C: Clock, N: Names>(
-    env: &mut Env<S, C, N>,
-    cache: &str,
-    odd: OddLines,
-) -> Result<Collected>
-    ensures collects { IfOk result (λ c. CollectsWith odd (site_of cache.now env.old.base 0)
-        c.kept c.dropped.items (S.log env.old.store) (S.log env.new.store)) }
-    ensures stops { IfErr result (λ e. StopsCollecting odd (site_of cache.now env.old.base 0) e
-        (S.log env.old.store) (S.log env.new.store)) }
-    ensures clock { env.new.clock ≡ env.old.clock }
-    ensures names { env.new.names ≡ env.old.names }
-    ensures base { env.new.base ≡ env.old.base }
-{
-    let answer = collect_open(env, cache, odd);
-    env.store.end_walks();
-    answer
 }
 
 /// Removes each content of a cache that is the address of no entry. If one is a link, the link is removed and its
@@ -78,7 +55,7 @@ pub fn collect_with<S: Store, C: Clock, N: Names>(
 ///
 /// A line of the index with a right digest that this crate can't read is odd: another reader may read it, and the content
 /// that it names. So a cache with such a line isn't collected: the call ends with an `IoError` of `Unsupported`, which
-/// names the first such bucket. `collect_with` can go on. Each bucket is read once.
+/// names the first such bucket. `CollectOpts::odd` can let it go on. Each bucket is read once.
 ///
 /// Errors are those of `content::read::list`, the first error that `ls` gives, as for a link in the index to a folder, and
 /// then that one, all of them before anything is removed. A removal that failed ends the call, and those before it stay
@@ -95,7 +72,9 @@ pub fn collect<S: Store, C: Clock, N: Names>(
     ensures names { env.new.names ≡ env.old.names }
     ensures base { env.new.base ≡ env.old.base }
 {
-    collect_with(env, cache, OddLines::Refuse)
+    let answer = collect_open(env, cache);
+    env.store.end_walks();
+    answer
 }
 
 /// What a collection with options did: how many contents had which fate; 2^64 - 1 if there are more.
@@ -192,11 +171,12 @@ impl<'a> CollectOpts<'a> {
     /// after the time at which the collection begins, less the grace. The clock is asked once, at the beginning. A
     /// content is asked for right before its removal, and stays if its store doesn't know when it changed.
     ///
-    /// With this, puts may run beside a collection if each ends within the grace after its content was moved into
+    /// With this, puts may run during a collection if each ends within the grace after its content was moved into
     /// place: its entry comes before the content is old. A put of bytes that are there already moves a new file into
     /// place, so it counts as any other. This isn't so for
     ///
     /// - a put that takes longer than the grace between the move of its content and its entry
+    /// - a put that moves bytes into the place of an old content between the question about it and its removal
     /// - a linker that meets an older link: no time of that link changes
     /// - `touch`, and an insertion without a put, of a content that no entry has
     ///

@@ -79,24 +79,6 @@ fn compact_open<S: Store, C: Clock, N: Names>(
     Ok(done)
 }
 
-/// Compacts a cache, durably or not.
-fn compact_all<S: Store, C: Clock, N: Names>(
-    env: &mut Env<S, C, N>,
-    durable: bool,
-    cache: &str,
-) -> Result<Compacted>
-    ensures compacts { IfOk result (λ c. CompactsCache durable cache.now c.buckets c.bytes
-        (S.log env.old.store) (S.log env.new.store)) }
-    ensures stops { IfErr result (λ e. StopsCompacting durable cache.now e
-        (S.log env.old.store) (S.log env.new.store)) }
-    ensures clock { env.new.clock ≡ env.old.clock }
-    ensures base { env.new.base ≡ env.old.base }
-{
-    let answer = compact_open(env, durable, cache);
-    env.store.end_walks();
-    answer
-}
-
 /// Writes each bucket of a cache's index anew, without lines that nobody needs. A line lies between line feeds and
 /// begins with the right digest of its text. These lines stay, in their order, byte for byte:
 ///
@@ -132,7 +114,7 @@ pub fn compact<S: Store, C: Clock, N: Names>(
     ensures clock { env.new.clock ≡ env.old.clock }
     ensures base { env.new.base ≡ env.old.base }
 {
-    compact_all(env, false, cache)
+    CompactOpts::new().compact(env, cache)
 }
 
 /// How a cache is compacted: durably, or not. Contracts see which.
@@ -176,7 +158,9 @@ impl CompactOpts {
         ensures clock { env.new.clock ≡ env.old.clock }
         ensures base { env.new.base ≡ env.old.base }
     {
-        compact_all(env, self.durable, cache)
+        let answer = compact_open(env, self.durable, cache);
+        env.store.end_walks();
+        answer
     }
 }
 

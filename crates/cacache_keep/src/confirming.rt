@@ -1,7 +1,7 @@
 //! Makes sure that keys lead to their entries of the index.
 ghost use Rattle.std.specs.Prelude.{◌≡◌, IfErr, OnOk, map, option_map};
 ghost use Rattle.cacache_entry.specs.View.{found_view};
-ghost use Rattle.cacache_jobs.specs.{Environment.{KeepsRest}, Sites.{site_of}};
+ghost use Rattle.cacache_jobs.specs.{Environment.{KeepsRest}, JobStates.{site_of}};
 ghost use Rattle.cacache_keep.specs.Confirming.{Confirms, StopsConfirming, is_led as is_led_of};
 
 use cacache_calls::Refusal;

@@ -1,7 +1,7 @@
 //! The entries of the index.
 ghost use Rattle.std.specs.Prelude.{◌≡◌, ◌⊎◌, ℕ, List, true, false, IfOk, IfErr};
 ghost use Rattle.cacache_core.specs.declared.errors.Error.TheVariants.{OutOfMemory};
-ghost use Rattle.cacache_jobs.specs.Sites.{site_of};
+ghost use Rattle.cacache_jobs.specs.JobStates.{site_of};
 ghost use Rattle.cacache_keep.specs.{Calls.{AreEntries, HasNoIndex, IsIndexError, StopsIndex}, Checking.{ReadsIndex}};
 
 use crate::walking::{Met, walk_index};

@@ -1,5 +1,5 @@
 //! What `list`, `verify`, `collect`, `plan`, `sweep`, `repair` and `compact` come to on a store in memory.
-ghost use Rattle.cacache_disk.specs.memory.Replay.{IsLog};
+ghost use Rattle.cacache_disk.specs.Replay.{IsLog};
 ghost use Rattle.cacache_keep.specs.{Behind.{CollectionsKeepKeys, LaterKeysStay, StoppedKeepKeys}, Houses.{RepairsHouse, SweepsHouse, SweepsKeepGood}, Kept.{CachesAreSwept, CollectionsLackIdle, CollectionsLeave, CollectionsSettle, CompactionsAreUnseen, CompactionsLeave, CompactionsStop, LaterReadsStay, ListsHold, LooksStay, PlansForetell, PlansLeave, RepairsKeepGood, RepairsMend, RepairsVerify, VerdictsJudge}, Losses.{CompactionsFix, CompactionsGrow, CompactionsLast, CompactionsOutlast, CompactionsSpare}};
 
 use cacache_disk::memory::MemStore;
@@ -29,7 +29,7 @@ use cacache_disk::memory::MemStore;
 /// If links lead out of the cache, lookups, reads by key and listings answer up to the next insertion as they
 /// might have without the collection: calls that look may come in between, and whatever else leaves the tree, removals that are
 /// made in both cases, and more collections. In a cache that only calls wrote to links lead out, by `links` of
-/// `cacache_laws::trees::collect_laws`. Step by step this follows from `lacks` and from `cacache_laws::trees::idle_laws`.
+/// `cacache_laws::trees::collect_laws`.
 ///
 /// In a cache that only calls wrote to, a collection leaves such a cache, in which each key leads to the entry that
 /// it led to, and to the same bytes, and so does one that an error ended. This holds for a key after collections, up to its next insertion, while contents

@@ -40,8 +40,9 @@ mod verifying;
 mod walking;
 mod weighing;
 
+pub use cacache_store::store::Stamps;
 pub use checking::OddLines;
-pub use collecting::{CollectOpts, Collected, Collection, collect, collect_with};
+pub use collecting::{CollectOpts, Collected, Collection, collect};
 pub use compacting::{CompactOpts, Compacted, compact};
 pub use later::later_laws;
 pub use laws::keep_laws;

@@ -13,7 +13,7 @@ use std::cmp::Ordering;
 #[derive(Clone, Copy, Debug, Default)]
 pub struct Limits {
     /// How many bytes the contents of its entries may have together on the disk. A content that several have counts
-    /// once.
+    /// once, and an empty one keeps within any limit.
     pub bytes: Option<u64>,
     /// The moment of the oldest entry that it may have, in milliseconds since 1970.
     pub since: Option<u128>,

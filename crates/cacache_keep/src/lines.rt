@@ -1,6 +1,6 @@
 //! The lines of a bucket, and the bytes that a compaction leaves of them.
 ghost use Rattle.std.specs.{Prelude.{◌≡◌, ◌++◌, ◌∷◌, ◌||◌, List, [], IfOk, IfErr, OnOk, MatchOption, bytes_eq, false, if◌then◌else◌, is_some, map, option_map, ℕ}, Option.{option_to_list}};
-ghost use Rattle.cacache_core.specs.{Digests.{sha256_hex}, declared.errors.Error.TheVariants.{OutOfMemory}};
+ghost use Rattle.cacache_core.specs.{Integrity.{sha256_hex}, declared.errors.Error.TheVariants.{OutOfMemory}};
 ghost use Rattle.cacache_entry.specs.{Bucket.{cut, CutsAt, without_cr as less_cr}, Entry.{closing}, View.{entry_view}};
 ghost use Rattle.cacache_laws.specs.trees.Compacting.{compact_text as compact_text_of, decision, decision_of, is_closed as is_closed_by, is_line as is_line_of, is_odd as is_odd_line, key_of, line_of_piece, lines_of as lines_in, Line as LineOf, text_of};
 ghost use Rattle.cacache_keep.specs.Lines.{HasKeys, decision_view, finds as finds_in, in_order, last_lines as last_of, line_view, without_tombstones};

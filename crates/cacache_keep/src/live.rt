@@ -1,6 +1,6 @@
 //! Which contents entries have.
 ghost use Rattle.std.specs.{Prelude.{◌≡◌, ◌↔◌, Some, All, IfOk, IsOk, Contains, map}, List.Sorted.{IsSorted}};
-ghost use Rattle.cacache_core.specs.{declared.integrity.digest.Hash.{Hash}, Integrity.{IsIntegrity, address as address_of}, Meeting.{lists}};
+ghost use Rattle.cacache_core.specs.{declared.integrity.digest.Hash.{Hash}, Integrity.{IsIntegrity, address as address_of}, Matching.{lists}};
 ghost use Rattle.cacache_walks.specs.Listing.{hash_cmp};
 ghost use Rattle.cacache_keep.specs.Calls.{AreOthers, AreUnused};
 
@@ -16,6 +16,17 @@ fn by_hash(a: &Hash, b: &Hash) -> Ordering
 {
     let algorithms = a.algorithm.cmp(&b.algorithm);
     algorithms.then(a.digest.as_slice().cmp(b.digest.as_slice()))
+}
+
+/// The hashes of these addresses.
+pub(crate) fn hashes_of(alloc: Global, addresses: &[Integrity]) -> Result<Vec<Hash>, AllocError>
+    ensures { IfOk result (λ hashes. map Some hashes.items ≡ map address_of addresses.now) }
+{
+    let mut hashes = Vec::new(alloc);
+    for sri in addresses {
+        hashes.push(sri.address().clone()?)?;
+    }
+    Ok(hashes)
 }
 
 /// The addresses of the entries.

@@ -1,10 +1,9 @@
 //! What shows that a content isn't there: a walk through the contents that doesn't meet it.
-ghost use Rattle.std.specs.Prelude.{◌≡◌, Some, true, IfOk, IfErr, OnOk, map, string_bytes};
-ghost use Rattle.cacache_core.specs.Integrity.{address as address_of};
+ghost use Rattle.std.specs.Prelude.{◌≡◌, true, IfOk, IfErr, OnOk, map, string_bytes};
 ghost use Rattle.cacache_jobs.specs.Environment.{KeepsRest};
 ghost use Rattle.cacache_keep.specs.Missing.{Doubts, ShowsContents, StopsShowing, is_below as is_below_of, is_hidden as is_hidden_of, is_missing};
 
-use crate::live::is_live;
+use crate::live::{hashes_of, is_live};
 use cacache_calls::Refusal;
 use cacache_core::digest::Hash;
 use cacache_core::errors::{Fault, Result};
@@ -35,17 +34,6 @@ impl Model for Shown {
     ghost view = { λ s. (s.contents.items, map string_bytes s.strange.items) };
 
     ghost invariant = { λ s. IsSorted hash_cmp s.contents.items };
-}
-
-/// The hashes of these addresses.
-fn hashes_of(alloc: Global, addresses: &[Integrity]) -> std::result::Result<Vec<Hash>, AllocError>
-    ensures { IfOk result (λ hashes. map Some hashes.items ≡ map address_of addresses.now) }
-{
-    let mut hashes = Vec::new(alloc);
-    for sri in addresses {
-        hashes.push(sri.address().clone()?)?;
-    }
-    Ok(hashes)
 }
 
 /// Walks through the contents.

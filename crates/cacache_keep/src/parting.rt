@@ -2,7 +2,7 @@
 ghost use Rattle.std.specs.Prelude.{◌≡◌, IfOk, IfErr, OnOk, map};
 ghost use Rattle.cacache_core.specs.declared.errors.Error.TheVariants.{OutOfMemory};
 ghost use Rattle.cacache_entry.specs.View.{found_view};
-ghost use Rattle.cacache_jobs.specs.Sites.{site_of};
+ghost use Rattle.cacache_jobs.specs.JobStates.{site_of};
 ghost use Rattle.cacache_keep.specs.Parting.{DropsKey, Parts, RemovesBucket, StopsParting, StopsRemovingBucket, StopsUnlinkingKey, UnlinksKey, leads_alone as leads_alone_of, may_be_full as may_be_full_of, unless_memory as unless_memory_of};
 
 use crate::confirming::is_led;

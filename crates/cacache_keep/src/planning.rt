@@ -1,6 +1,6 @@
 //! The call that says what a collection would remove.
 ghost use Rattle.std.specs.Prelude.{◌≡◌, IfOk, IfErr, map};
-ghost use Rattle.cacache_jobs.specs.{Environment.{KeepsRest}, Sites.{site_of}};
+ghost use Rattle.cacache_jobs.specs.{Environment.{KeepsRest}, JobStates.{site_of}};
 ghost use Rattle.cacache_keep.specs.{Planning.{HidesSize, StopsPlanning, StopsTelling, TellsSize, TellsSizes, sized_of}, Told.{PlansAs}};
 
 use crate::choosing::{Chosen, choose};

@@ -1,7 +1,7 @@
 //! The calls that drop the oldest entries of a cache, and say which these are.
 ghost use Rattle.std.specs.{Prelude.{◌≡◌, ℕ, [], List, None, Option, false, IfOk, IfErr, map}, List.Sorted.{IsPermutation, IsSorted}};
-ghost use Rattle.cacache_entry.specs.{Latest.{Found as FoundEntry}, View.{found_view}};
-ghost use Rattle.cacache_jobs.specs.{Environment.{KeepsRest}, Sites.{site_of}};
+ghost use Rattle.cacache_entry.specs.{Bucket.{Found as FoundEntry}, View.{found_view}};
+ghost use Rattle.cacache_jobs.specs.{Environment.{KeepsRest}, JobStates.{site_of}};
 ghost use Rattle.cacache_keep.specs.{declared.checking.OddLines.TheVariants.{Refuse}, Collecting.{told_by}, Grace.{LimitedFirst}, Limits.{age_cmp, entries_in, weight_of}, Pruning.{PlansPruneAs, PrunesAs, StopsPrunePlan, StopsPruning}, Weighing.{StopsWeighing, Weighs}};
 
 use crate::checking::{OddLines, check};
@@ -49,8 +49,8 @@ pub struct Pruned {
     pub bytes_before: u64,
     /// How many bytes those of the entries that are kept have; 2^64 - 1 if there are more. Those that are left don't count.
     pub bytes_after: u64,
-    /// What the collection after that did.
-    pub collected: Collection,
+    /// What the collection after that did, or the error that ended it.
+    pub collected: Result<Collection>,
 }
 
 /// The entries, out of what the index has.
@@ -149,8 +149,7 @@ fn prune_old<S: Stamps, C: Clock, N: Names>(
     ensures prunes { IfOk result (λ p. PrunesAs limits
         (told_by opts.entry.odd opts.entry.keep.now opts.entry.durable) limit
         (site_of cache.now env.old.base 0) p (S.log env.old.store) (S.log env.new.store)) }
-    ensures stops { IfErr result (λ e. StopsPruning limits
-        (told_by opts.entry.odd opts.entry.keep.now opts.entry.durable) limit
+    ensures stops { IfErr result (λ e. StopsPruning limits opts.entry.durable
         (site_of cache.now env.old.base 0) e (S.log env.old.store) (S.log env.new.store)) }
     ensures names { env.new.names ≡ env.old.names }
     ensures base { env.new.base ≡ env.old.base }
@@ -167,7 +166,7 @@ fn prune_old<S: Stamps, C: Clock, N: Names>(
     let_go(kept);
     confirm(env, cache, dropped.as_slice())?;
     let Parted { dropped, left } = part(env, opts.durable, cache, dropped)?;
-    let collected = collect_old(env, opts, limit, cache)?;
+    let collected = collect_old(env, opts, limit, cache);
     Ok(Pruned {
         dropped,
         left,
@@ -185,7 +184,8 @@ impl CollectOpts<'_> {
     /// A tombstone that fails doesn't end the call, as on a full disk. If it failed with `Device`, `ShortAppend` or
     /// `WriteZero`, the key's bucket is read. It is removed if no line of it is odd or decides another key, and the key
     /// still leads to the entry there: that needs no room and gives some. An entry whose key couldn't be dropped is left
-    /// and told, and the call goes on. The collection comes after all keys.
+    /// and told, and the call goes on. The collection comes after all keys. If an error ends that one, this call is `Ok`, so
+    /// that its caller learns which keys are dropped, and `collected` has the error.
     ///
     /// Bytes are counted on the disk, as `plan_prune` asks for them, and a content that several entries share counts
     /// once. A content that no entry leads to doesn't count.
@@ -202,8 +202,8 @@ impl CollectOpts<'_> {
     /// with such a line isn't pruned, whatever the options say of odd lines: the call ends with an `IoError` of
     /// `Unsupported`, which names the first such bucket, before it changes anything.
     ///
-    /// Errors are those of `plan_prune`, these two, those of a lookup, and those of `collect`. `OutOfMemory` may come at
-    /// any time. The keys before an error are dropped or left then.
+    /// Errors are those of `plan_prune`, these two, and those of a lookup. `OutOfMemory` may come at any time: the keys
+    /// before it are dropped or left then.
     pub fn prune<S: Stamps, C: Clock, N: Names>(
         self,
         env: &mut Env<S, C, N>,
@@ -214,9 +214,7 @@ impl CollectOpts<'_> {
             × LimitedFirst C.given self.entry.grace env.old.clock limit
             × PrunesAs limits (told_by Refuse self.entry.keep.now self.entry.durable) limit
             (site_of cache.now env.old.base 0) p (S.log env.old.store) (S.log env.new.store)) }
-        ensures stops { IfErr result (λ e. (limit : Option ℕ)
-            × LimitedFirst C.given self.entry.grace env.old.clock limit
-            × StopsPruning limits (told_by Refuse self.entry.keep.now self.entry.durable) limit
+        ensures stops { IfErr result (λ e. StopsPruning limits self.entry.durable
             (site_of cache.now env.old.base 0) e (S.log env.old.store) (S.log env.new.store)) }
         ensures names { env.new.names ≡ env.old.names }
         ensures base { env.new.base ≡ env.old.base }
@@ -238,7 +236,7 @@ pub fn prune<S: Stamps, C: Clock, N: Names>(
 ) -> Result<Pruned>
     ensures prunes { IfOk result (λ p. PrunesAs limits (told_by Refuse [] false) None
         (site_of cache.now env.old.base 0) p (S.log env.old.store) (S.log env.new.store)) }
-    ensures stops { IfErr result (λ e. StopsPruning limits (told_by Refuse [] false) None
+    ensures stops { IfErr result (λ e. StopsPruning limits false
         (site_of cache.now env.old.base 0) e (S.log env.old.store) (S.log env.new.store)) }
     ensures names { env.new.names ≡ env.old.names }
     ensures base { env.new.base ≡ env.old.base }

@@ -1,6 +1,6 @@
 //! Contents that are read, each in turn: good ones and damaged ones.
 ghost use Rattle.std.specs.Prelude.{◌≡◌, ℕ, List, [], ◌++◌, IfOk, IfErr};
-ghost use Rattle.cacache_core.specs.{declared.{errors.Error.TheVariants.{OutOfMemory}, integrity.digest.Hash.{Hash}}, Meeting.{meets}, Pieces.{Compares}};
+ghost use Rattle.cacache_core.specs.{declared.{errors.Error.TheVariants.{OutOfMemory}, integrity.digest.Hash.{Hash}}, Matching.{meets}, Hashers.{Compares}};
 ghost use Rattle.cacache_keep.specs.Reading.{JudgesBytes, SaysGood, StopsContent, StopsEach, StopsGiving, WeighsEach, WeighsOthers, finds_none};
 
 use cacache_calls::Refusal;

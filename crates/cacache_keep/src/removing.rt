@@ -1,6 +1,6 @@
 //! Contents that are removed, one after another.
 ghost use Rattle.std.specs.Prelude.{OnOk, IfErr, map};
-ghost use Rattle.cacache_jobs.specs.{Environment.{KeepsRest}, Sites.{site_of}};
+ghost use Rattle.cacache_jobs.specs.{Environment.{KeepsRest}, JobStates.{site_of}};
 ghost use Rattle.cacache_keep.specs.Calls.{MadeCalls, StopsRemoving, removal};
 
 use cacache_core::errors::Result;

@@ -1,6 +1,6 @@
 //! The call that repairs a cache.
 ghost use Rattle.std.specs.Prelude.{◌≡◌, IfOk, IfErr};
-ghost use Rattle.cacache_jobs.specs.Sites.{site_of};
+ghost use Rattle.cacache_jobs.specs.JobStates.{site_of};
 ghost use Rattle.cacache_keep.specs.{declared.checking.OddLines.TheVariants.{Refuse}, Repairing.{StopsRepairing, StopsRepairingFrom}, Told.{RepairsAs, RepairsFromAs}};
 
 use crate::asking::dangling_of;

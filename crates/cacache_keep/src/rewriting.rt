@@ -3,7 +3,7 @@
 ghost use Rattle.std.specs.Prelude.{◌≡◌, [], IfOk, IfErr, OnOk};
 ghost use Rattle.cacache_store.specs.declared.store.answer.Answer.TheVariants as answers;
 ghost use Rattle.cacache_store.specs.declared.store.step.Step.TheVariants as steps;
-ghost use Rattle.cacache_calls.specs.{SingleSteps.{Does, FailsAt}, StepPaths.{temp_folder as temp_folder_of, temp_path as temp_path_of}};
+ghost use Rattle.cacache_calls.specs.{SingleSteps.{Does, FailsAt}, Steps.{temp_folder as temp_folder_of, temp_path as temp_path_of}};
 ghost use Rattle.cacache_keep.specs.Rewriting.{MakesTemp, Rewrites, StopsMaking, StopsRewriting, StopsSecuring, StopsSyncingBucket, StopsWriting, SyncsBucket, SyncsFolder, Took, folder_of as folder_of_path};
 
 use cacache_calls::Refusal;

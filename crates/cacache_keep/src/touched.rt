@@ -6,7 +6,7 @@ use cacache_disk::memory::MemStore;
 use cacache_store::env::{Clock, Env, Names};
 
 /// After `touch` of a key that led to an entry: it leads to that entry with the clock's moment, and so to the same bytes. If
-/// it led to nothing, the whole store is as it was. Whatever was answered, a cache is left, and all else stays.
+/// it led to nothing, the store's tree is as it was. Whatever was answered, a cache is left, and all else stays.
 pub fn after_touch<C: Clock, N: Names>(
     env: &Env<MemStore, C, N>,
     cache: &str,

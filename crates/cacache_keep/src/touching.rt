@@ -1,7 +1,7 @@
 //! The call that makes a key's entry a new one.
 ghost use Rattle.std.specs.Prelude.{◌≡◌, IfOk, IfErr, OnOk};
 ghost use Rattle.cacache_entry.specs.View.{found_view};
-ghost use Rattle.cacache_jobs.specs.Sites.{site_of};
+ghost use Rattle.cacache_jobs.specs.JobStates.{site_of};
 ghost use Rattle.cacache_keep.specs.Touching.{ReadsClean, StopsChecking, StopsTouching, Touches, said_of};
 
 use crate::checking::{OddLines, check};

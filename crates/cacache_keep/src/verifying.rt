@@ -1,6 +1,6 @@
 //! The call that verifies a cache.
 ghost use Rattle.std.specs.Prelude.{◌≡◌, IfOk, IfErr};
-ghost use Rattle.cacache_jobs.specs.{Environment.{KeepsRest}, Sites.{site_of}};
+ghost use Rattle.cacache_jobs.specs.{Environment.{KeepsRest}, JobStates.{site_of}};
 ghost use Rattle.cacache_keep.specs.{Keeping.{StopsVerifying}, Told.{VerifiesAs}};
 
 use crate::asking::dangling_of;

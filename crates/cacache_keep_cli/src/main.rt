@@ -22,6 +22,8 @@ fn main(rt: HostRuntime) -> ExitCode {
         let _ = errors.output.write_all(b"out of memory\n");
         return ExitCode::from(1);
     };
-    tell_missing(&mut env, words, &mut errors);
+    if let Some(status) = tell_missing(&mut env, words, &mut errors) {
+        return ExitCode::from(status);
+    }
     ExitCode::from(run(&mut env, words, &mut rt.stdout(), &mut errors))
 }

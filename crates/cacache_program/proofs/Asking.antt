@@ -1,21 +1,11 @@
 -- What was asked for, once the words were parsed.
 use Rattle.std.{proofs.Common.{◌≡◌, ◌∙◌, List, ℕ, Option, Some, None, IfNone, IfSome, ap, false, nat_eq, subst, sym}, specs.Cmp.Lexicographic.{other_text, pointwise}}
-use Rattle.cacache_program.specs.Words.{Asked, Keyed, Unkeyed, these_asked}
+use Rattle.cacache_program.specs.Words.{Asked, Keyed, these_asked}
 
 -- a fact that holds also holds if there is no value
 where_none : {A X : Type 0} (o : Option A) → X → IfNone o X
 where_none None x = x
 where_none (Some a) x = tt
-
--- a fact of any value holds of the one that is there
-for_any : {A : Type 0} {P : A → Type 0} (o : Option A) → ((a : A) → P a) → IfSome o P
-for_any None all = tt
-for_any (Some a) all = all a
-
--- what holds of the cache that was parsed holds of the one that is asked for
-pub unkeyed_holds : (asked parsed : Asked) (name : List ℕ) (P : List ℕ → Type 0) → asked ≡ parsed → P parsed.cache → Unkeyed asked name P
-unkeyed_holds asked parsed name P is holds =
-    subst (λ (it : Asked). Unkeyed it name P) (sym is) (where_none parsed.key (λ named. holds))
 
 -- the same for two words more
 keyed_holds : (asked parsed : Asked) (name : List ℕ) (P : List ℕ → List ℕ → Type 0) → asked ≡ parsed → IfSome parsed.key (λ key. P parsed.cache key) → Keyed asked name P
@@ -46,14 +36,6 @@ other_keyed name X {asked = asked} is named differs = of_key asked.key (λ calle
     of_key : (o : Option (List ℕ)) → (asked.name ≡ name → ⊥) → IfSome o (λ key. asked.name ≡ name → X key)
     of_key None isnt = tt
     of_key (Some key) isnt = λ called. absurd (isnt called)
-
--- so it does if the name that was parsed isn't this one
-pub unnamed_keyed : (name : List ℕ) (X : List ℕ → Type 0) {asked parsed : Asked} → asked ≡ parsed → (parsed.name ≡ name → ⊥) → IfSome asked.key (λ key. asked.name ≡ name → X key)
-unnamed_keyed name X {asked = asked} is differs = for_any asked.key (λ key called. absurd (differs (ap (λ (it : Asked). it.name) (sym is) ∙ called)))
-
--- and if the word before the cache isn't this option
-pub other_option : (name option : List ℕ) (X : List ℕ → Type 0) {asked parsed : Asked} → asked ≡ parsed → (parsed.cache ≡ option → ⊥) → IfSome asked.key (λ key. asked.name ≡ name → asked.cache ≡ option → X key)
-other_option name option X {asked = asked} is differs = for_any asked.key (λ key called said. absurd (differs (ap (λ (it : Asked). it.cache) (sym is) ∙ said)))
 
 -- if a key was parsed, anything holds of a name alone
 pub not_unkeyed : (X : Type 0) {asked parsed : Asked} {key : List ℕ} → asked ≡ parsed → parsed.key ≡ Some key → IfNone asked.key X

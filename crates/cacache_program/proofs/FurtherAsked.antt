@@ -1,9 +1,9 @@
 -- The further words, if others were asked for.
-use Rattle.std.proofs.Common.{◌≡◌, ℕ, List, [], ◌∷◌, Option, Some, IfSome, String, string_bytes, get_or, codes, false, nat_eq, subst, sym, ap, ◌∙◌}
+use Rattle.std.proofs.Common.{◌≡◌, ℕ, List, [], ◌∷◌, Option, String, string_bytes, get_or, codes, false, nat_eq, subst, sym, ap, ◌∙◌}
 use Rattle.std.specs.Cmp.Lexicographic.{other_text, pointwise}
 use Rattle.cacache_store.specs.declared.store.plain.PlainTemp.{PlainTemp}
 use Rattle.cacache.specs.{Stores.{LogItem}, Calls.{Env}}
-use Rattle.cacache_program.{specs.{FurtherWords.{DoesFurther, Filed, IsNoFurther, IsWrongFurther}, Words.{Asked, asked_of, these_asked}}, proofs.Asking.{other_keyed}}
+use Rattle.cacache_program.{specs.{FurtherWords.{DoesFurther, Filed}, Words.{Asked, asked_of}}, proofs.Asking.{other_keyed}}
 
 -- four words ask for none with a cache and a key alone
 pub not_filed : {A : Type 0} (words : List (String A)) (name other : List ℕ) (P : List ℕ → List ℕ → List ℕ → Type 0) → (asked_of words).name ≡ other → false ≡ pointwise nat_eq other [] → Filed words name P
@@ -29,14 +29,6 @@ other_further {words = words} {other = other} is named reads writes asks some =
       copies = not_filed words (codes "copy") other _ called some;
       stores = not_filed words (codes "store") other _ called some;
     }
-
--- the name that was asked for, if this one was parsed
-pub named_further : {asked parsed : Asked} {other : List ℕ} → asked ≡ parsed → parsed.name ≡ other → asked.name ≡ other
-named_further is named = ap (λ (it : Asked). it.name) is ∙ named
-
--- if a name and a key were asked for and are wrong, the name is none of the further ones
-pub wrong_further : {A : Type 0} (words : List (String A)) {name cache key : List ℕ} → asked_of words ≡ these_asked name cache (Some key) → IsWrongFurther words → IsNoFurther name
-wrong_further words is wrong = subst (λ (it : Asked). IfSome it.key (λ key. IsNoFurther it.name)) is wrong.0
 
 -- four words ask for what was done with the last three
 pub filed_by : {A : Type 0} (words : List (String A)) (b c d : String A) (cache key file name : List ℕ) (P : List ℕ → List ℕ → List ℕ → Type 0) → b ≡ get_or words 1 b → c ≡ get_or words 2 c → d ≡ get_or words 3 d

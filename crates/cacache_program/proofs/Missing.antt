@@ -2,7 +2,7 @@
 use Rattle.std.proofs.Common.{◌≡◌, ◌⊎◌, inl, inr, ℕ, List, Option, Some, IfSome, Ok, Err, Bool, true, false, not, refl, subst}
 use Rattle.cacache_store.specs.declared.store.answer.Answer.TheVariants as answers
 use Rattle.cacache_store.specs.declared.store.step.Step.TheVariants as steps
-use Rattle.cacache_store.specs.{declared.store.log.LogItem.{LogItem}, Fits.{Fits, Logs}, Plain.{PlainAnswer}}
+use Rattle.cacache_store.specs.{declared.store.log.LogItem.{LogItem}, Plain.{Fits, Logs, PlainAnswer}}
 use Rattle.cacache_calls.specs.{declared.answers.Refusal.{Refusal}, Answers.{there_in}, SingleSteps.{Does}}
 use Rattle.cacache_program.specs.KeepMissing.{says_missing}
 

@@ -2,9 +2,9 @@
 use Rattle.std.proofs.{Common.{◌≡◌, ℕ, List, ◌++◌, Option, length, map, subst, sym}, lemmas.List.{length-map}}
 use Rattle.cacache_core.specs.declared.integrity.digest.Hash.{Hash}
 use Rattle.cacache.specs.{Stores.{LogItem}, Calls.{Env}, Entries.{Found, found_view}}
-use Rattle.cacache_jobs.specs.{Environment.{AsksMoment}, Sites.{site_of}}
-use Rattle.cacache_keep.specs.{declared.{limits.Limits.{Limits}, pruning.{PrunePlan.{PrunePlan}, Pruned.{Pruned}}}, Limits.{told_bytes}, Pruning.{PlansPrune, PlansPruneAs, PrunesAs, PrunesCache}}
-use Rattle.cacache_program.specs.{KeepValues.{text_of_prune_plan, text_of_pruned}, Orders.{Order}, Output.{PutsOut, PutsOutWith}, WordPrune.{PrintsPrunePlan, PrintsPruning, limits_at, prune_text, pruned_status, pruned_text, told_of}}
+use Rattle.cacache_jobs.specs.{Environment.{AsksMoment}, JobStates.{site_of}}
+use Rattle.cacache_keep.specs.{declared.{limits.Limits.{Limits}, pruning.{PrunePlan.{PrunePlan}, Pruned.{Pruned}}}, Grace.{LimitedFirst}, Limits.{told_bytes}, Pruning.{PlansPrune, PlansPruneAs, PrunesAs, PrunesCache}}
+use Rattle.cacache_program.specs.{KeepValues.{text_of_prune_plan, text_of_pruned}, Orders.{Order}, Output.{PutsOut, PutsOutWith}, WordCollect.{millis_in}, WordPrune.{PrintsPrunePlan, PrintsPruning, limits_at, prune_text, pruned_status, pruned_text, told_of}}
 
 module _ {S C N : Type 0} (log : S → Option (List LogItem)) (bytes seconds : Option ℕ) (cache : List ℕ) (old new : Env S C N) (before after : Option (List ℕ)) (status : ℕ) where
   -- a plan of a pruning with the limits at a moment was told
@@ -25,12 +25,14 @@ module _ {S C N : Type 0} (log : S → Option (List LogItem)) (bytes seconds : O
 
 module _ {S C N : Type 0} (log : S → Option (List LogItem)) (moments : C → Option (List ℕ)) (o : Order) (roots : List (List Hash)) (old new : Env S C N) (before after : Option (List ℕ)) (status : ℕ) where
   -- so was a pruning
-  pub pruned_told : (limits : Limits) (moment : ℕ) (limit : Option ℕ) (p : Pruned) (whole : ℕ) → limits ≡ limits_at o.size o.age moment → PrunesAs limits (told_of o roots) limit (site_of o.cache old.base 0) p (log old.store) (log new.store)
-      → whole ≡ pruned_status (length p.left.items) → PutsOutWith whole (text_of_pruned p) before after status → PrintsPruning log moments o roots moment limit old new before after status
-  pruned_told limits moment limit p whole same prunes is puts =
+  pub pruned_told : (limits : Limits) (moment : ℕ) (asked : C) (limit : Option ℕ) (p : Pruned) (whole : ℕ) → limits ≡ limits_at o.size o.age moment → LimitedFirst moments (millis_in o.grace) asked limit → PrunesAs limits (told_of o roots) limit (site_of o.cache old.base 0) p (log old.store) (log new.store)
+      → whole ≡ pruned_status (length p.left.items) p.collected → PutsOutWith whole (text_of_pruned p) before after status → PrintsPruning log moments o roots moment asked old new before after status
+  pruned_told limits moment asked limit p whole same limited prunes is puts =
       let gone = map found_view p.dropped.items in
       let left = map found_view p.left.items in
-      let counted = subst (λ (n : ℕ). PutsOutWith (pruned_status n) (text_of_pruned p) before after status) (sym (length-map p.left.items found_view)) (subst (λ (n : ℕ). PutsOutWith n (text_of_pruned p) before after status) is puts) in (
+      let counted = subst (λ (n : ℕ). PutsOutWith (pruned_status n p.collected) (text_of_pruned p) before after status) (sym (length-map p.left.items found_view)) (subst (λ (n : ℕ). PutsOutWith n (text_of_pruned p) before after status) is puts) in (
+        limit,
+        limited,
         prunes.0,
         prunes.1,
         prunes.2,
@@ -38,6 +40,6 @@ module _ {S C N : Type 0} (log : S → Option (List LogItem)) (moments : C → O
         left,
         p.collected,
         subst (λ (l : Limits). PrunesCache l (told_of o roots) limit (site_of o.cache old.base 0) prunes.0 prunes.1 prunes.2 gone left p.collected (log old.store) (log new.store)) same prunes.3,
-        subst (λ (n : ℕ). PutsOutWith (pruned_status (length left)) (pruned_text n (told_bytes prunes.2) gone left) before after status) prunes.4
-            (subst (λ (n : ℕ). PutsOutWith (pruned_status (length left)) (pruned_text p.bytes_before n gone left) before after status) prunes.5 counted),
+        subst (λ (n : ℕ). PutsOutWith (pruned_status (length left) p.collected) (pruned_text n (told_bytes prunes.2) gone left) before after status) prunes.4
+            (subst (λ (n : ℕ). PutsOutWith (pruned_status (length left) p.collected) (pruned_text p.bytes_before n gone left) before after status) prunes.5 counted),
       )

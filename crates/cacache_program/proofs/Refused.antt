@@ -2,7 +2,7 @@
 use Rattle.std.proofs.Common.{◌≡◌, ℕ, List, Err}
 use Rattle.cacache_store.specs.declared.store.answer.Answer.TheVariants as answers
 use Rattle.cacache_store.specs.declared.store.step.Step.TheVariants as steps
-use Rattle.cacache_store.specs.{Fits.{Fits}, Plain.{PlainAnswer}}
+use Rattle.cacache_store.specs.Plain.{Fits, PlainAnswer}
 use Rattle.cacache_calls.specs.{declared.answers.Refusal.{Refusal}, Answers.{bytes_in}}
 use Rattle.cacache_sync.proofs.content.StepAnswers.{Refuses}
 

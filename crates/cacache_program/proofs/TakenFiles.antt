@@ -1,13 +1,13 @@
 -- Files that are opened, read in pieces and taken by a writer.
-use Rattle.std.proofs.{Common.{◌≡◌, ◌++◌, inl, inr, ℕ, List, [], Option, Some, None, Result, Ok, Err, IfErr, IfOk, IfSome, refl, sym, subst, ap, ◌∙◌, append-nil, append_assoc}, KnownBytes.{Appends-nil, Appends-trans}}
-use Rattle.std.specs.{Io.KnownBytes.{Consumes, IsAtEnd}, Prelude.{IsErrAnd}}
+use Rattle.std.proofs.{Common.{◌≡◌, ◌++◌, inl, inr, ℕ, List, [], Option, Some, Result, Ok, Err, IfErr, IfOk, sym, subst, ap, ◌∙◌, append_assoc}, KnownBytes.{Appends-trans}}
+use Rattle.std.specs.Prelude.{IsErrAnd}
 use Rattle.cacache_core.specs.{declared.{errors.Error.{Error}, integrity.{algorithm.Algorithm.{Algorithm, TheVariants.{Sha256}}, digest.Hash.{Hash}}}, Hashers.{algorithm_of}, Integrity.{integrity_under}}
-use Rattle.cacache_store.specs.{declared.{env.Env.{Env}, store.{log.LogItem.{LogItem}, plain.{PlainFile.{PlainFile}, PlainTemp.{PlainTemp}}}}, Fits.{Fits, Logs}, Given.{AddsAnswer}, Plain.{PlainAnswer}}
+use Rattle.cacache_store.specs.{declared.{env.Env.{Env}, store.{log.LogItem.{LogItem}, plain.{PlainFile.{PlainFile}, PlainTemp.{PlainTemp}}}}, Plain.{Fits, Logs, PlainAnswer}, Outside.{AddsAnswer}}
 use Rattle.cacache_store.specs.declared.store.answer.Answer.TheVariants as answers
 use Rattle.cacache_store.specs.declared.store.step.Step.TheVariants as steps
 use Rattle.cacache_calls.specs.{declared.{command.Options.{Options}, reply.Reply.TheVariants.{Stored}}, Answers.{file_in}, Promises.{Stores, answered}, Runs.{reply_of}, SingleSteps.{Does, FailsAt}}
-use Rattle.cacache_jobs.specs.{Brought.{Brings}, Environment.{KeepsRest, MomentOf}}
-use Rattle.cacache_sync.specs.{content.{OpenReads.{FailsToOpen, OpensFile}, OpenWrites.{EndsWriter, HasTaken, TriesToRemove}}, declared.put.writer.SyncWriter.{SyncWriter}, put.{KeyedWriters.{CommitsWriter, OpensKeyed, writer_commit}, Options.{nothing_said, options_of}}}
+use Rattle.cacache_jobs.specs.{LeadsOn.{Brings}, Environment.{KeepsRest, MomentOf}}
+use Rattle.cacache_sync.specs.{content.{OpenReads.{FailsToOpen, OpensFile}, OpenWrites.{EndsWriter, HasTaken, TriesToRemove}}, declared.put.writer.SyncWriter.{SyncWriter}, put.KeyedWriters.{CommitsWriter, OpensKeyed, writer_commit, nothing_said, options_of}}
 use Rattle.cacache_sync.proofs.content.StepAnswers.{file_refused, refusal_of, refused_fails}
 use Rattle.cacache_program.specs.{WordStore.{EndsFile, GivesUp, WentOn}, WordWrite.{AreAllOf}}
 
@@ -34,15 +34,6 @@ unopened seen path p t (Err e) old new same brings fits logs =
 -- ---- the writer takes its pieces
 
 module _ {T : Type 0} (temp : T → PlainTemp) where
-  -- nothing was taken yet
-  pub went_nowhere : (w : SyncWriter T) → WentOn temp w [] w
-  went_nowhere w = record {
-    takes = λ bytes has. subst (HasTaken w.writer) (sym (append-nil bytes)) has;
-    appends = Appends-nil (temp w.writer.file).bytes;
-    same = (refl, refl, refl, refl);
-    said = refl;
-  }
-
   -- a piece more was
   pub went_further : (a b c : SyncWriter T) (bytes more : List ℕ) → WentOn temp a bytes b → WentOn temp b more c → WentOn temp a (bytes ++ more) c
   went_further a b c bytes more p q = record {
@@ -51,13 +42,6 @@ module _ {T : Type 0} (temp : T → PlainTemp) where
     same = (q.same.0 ∙ p.same.0, q.same.1 ∙ p.same.1, q.same.2 ∙ p.same.2, q.same.3 ∙ p.same.3);
     said = q.said ∙ ap (λ (w : SyncWriter T). record w { writer = c.writer }) p.said;
   }
-
--- at the end of the file, what was read are all its bytes
-pub all_read : (a b c : Option (List ℕ)) (bytes : List ℕ) → Consumes a b bytes → Consumes b c [] → IsAtEnd c → IfSome a (λ given. bytes ≡ given)
-all_read None b c bytes p q end = tt
-all_read (Some xs) None c bytes p q end = absurd p
-all_read (Some xs) (Some ys) None bytes p q end = absurd q
-all_read (Some xs) (Some ys) (Some zs) bytes p q end = sym (p ∙ ap (λ (rest : List ℕ). bytes ++ rest) (q ∙ end) ∙ append-nil bytes)
 
 -- ---- what becomes of the file
 

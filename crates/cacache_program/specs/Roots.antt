@@ -1,6 +1,6 @@
 -- Further roots, as the lines of a file name them.
 use Rattle.std.specs.{Prelude.{◌≡◌, ◌⊎◌, ℕ, List, [], Option, None, Some, Ok, Contains, map}, Str.{IsUtf8, Lines.{lines}}}
-use Rattle.cacache_core.specs.{declared.{errors.{Error.{Error, TheVariants.{IntegrityError}}, IntegrityFault.TheVariants.{BadText}}, integrity.digest.Hash.{Hash}}, Refusals.{IsReadFailure}, Texts.{read_integrity}}
+use Rattle.cacache_core.specs.{declared.{errors.{Error.{Error, TheVariants.{IntegrityError}}, IntegrityFault.TheVariants.{BadText}}, integrity.digest.Hash.{Hash}}, Errors.{IsReadFailure}, Texts.{read_integrity}}
 use Rattle.cacache_store.specs.declared.store.answer.Answer.TheVariants as answers
 use Rattle.cacache_store.specs.declared.store.step.Step.TheVariants as steps
 use Rattle.cacache_store.specs.declared.store.log.LogItem.{LogItem}

@@ -1,6 +1,6 @@
 -- Words that name an integrity.
 use Rattle.std.specs.Prelude.{◌≡◌, ◌⊎◌, ℕ, List, Option, Ok}
-use Rattle.cacache_core.specs.{Refusals.{IsReadFailure}, Texts.{read_integrity}}
+use Rattle.cacache_core.specs.{Errors.{IsReadFailure}, Texts.{read_integrity}}
 use Rattle.cacache.specs.{Calls.{Error}, Integrities.{Hash}}
 
 -- the text isn't read as an integrity, or there is no memory for it

@@ -2,7 +2,7 @@
 use Rattle.std.specs.Prelude.{◌≡◌, ◌⊎◌, ◌&&◌, ◌*◌, ◌-◌, ◌^◌, ℕ, Bool, true, false, not, List, [], ◌∷◌, Option, codes, is_none, length, min, option_map}
 use Rattle.cacache_core.specs.declared.integrity.digest.Hash.{Hash}
 use Rattle.cacache.specs.{Stores.{LogItem}, Calls.{Env, KeepsRest}}
-use Rattle.cacache_jobs.specs.Sites.{site_of}
+use Rattle.cacache_jobs.specs.JobStates.{site_of}
 use Rattle.cacache_keep.specs.{declared.{checking.OddLines.{OddLines, TheVariants.{Ignore, Refuse}}, collecting.Collection.{Collection}}, Collecting.{CollectsBy as CollectsTold, StopsCollectingBy, Told, told_by}, Grace.{LimitedBy}, Keeping.{CollectsWith, StopsCollecting}}
 use Rattle.cacache_program.specs.{Counts.{counts_text}, KeepFails.{Fails}, Orders.{Order}, Output.{PutsOut}, Roots.{ReadsRoots, StopsRoots}}
 

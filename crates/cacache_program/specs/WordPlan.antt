@@ -1,7 +1,7 @@
 -- The word `plan` of the program `cacache-keep`.
 use Rattle.std.specs.{Prelude.{◌⊎◌, ◌++◌, ℕ, List, [], ◌∷◌, Option, codes, length}, List.{flat_map}}
 use Rattle.cacache.specs.{Stores.{LogItem}, Calls.{Env, KeepsRest}}
-use Rattle.cacache_jobs.specs.Sites.{site_of}
+use Rattle.cacache_jobs.specs.JobStates.{site_of}
 use Rattle.cacache_keep.specs.{Checking.{odd_in}, Planning.{PlansCache, Sized, StopsPlanning}}
 use Rattle.cacache_program.specs.{Counts.{counts_text}, KeepFails.{Fails}, Output.{PutsOut}, WordList.{odd_line}}
 

@@ -1,9 +1,9 @@
 -- The word `store`.
 use Rattle.std.specs.{Prelude.{◌≡◌, ◌⊎◌, ℕ, List, Option, Some, Result, Ok, Err, IfOk}, Io.KnownBytes.{Appends}}
 use Rattle.cacache_store.specs.declared.store.plain.PlainTemp.{PlainTemp}
-use Rattle.cacache_calls.specs.StepPaths.{temp_path}
+use Rattle.cacache_calls.specs.Steps.{temp_path}
 use Rattle.cacache_sync.specs.declared.put.writer.SyncWriter.{SyncWriter}
-use Rattle.cacache.specs.{Integrities.{Hash, Sha256, integrity_under}, Stores.{AddsAnswer, LogItem, PlainFile}, Calls.{Env, Error, KeepsRest, Reply, Stored, nothing_said, reply_of}, Readers.{FailsToOpen, OpensFile}, SyncWriters.{CommitsWriter, OpensKeyed}, Writers.{FailsToMake, IsSameWriter, Makes, Takes, TriesToRemove}}
+use Rattle.cacache.specs.{Integrities.{Hash, Sha256, integrity_under}, Stores.{AddsAnswer, LogItem, PlainFile}, Calls.{Env, Error, KeepsRest, Reply, Stored, nothing_said, reply_of}, OpenHandles.{FailsToOpen, OpensFile, CommitsWriter, OpensKeyed, FailsToMake, IsSameWriter, Makes, Takes, TriesToRemove}}
 use Rattle.cacache_program.specs.WordWrite.{AreAllOf, TellsPut}
 
 -- the writer went on: it and its file took these bytes more, and the rest of it stayed

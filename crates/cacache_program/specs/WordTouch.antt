@@ -1,7 +1,7 @@
 -- The word `touch` of the program `cacache-keep`.
 use Rattle.std.specs.Prelude.{◌≡◌, ◌⊎◌, ℕ, Bool, true, false, List, Option, codes}
 use Rattle.cacache.specs.{Stores.{LogItem}, Calls.{Env}}
-use Rattle.cacache_jobs.specs.Sites.{site_of}
+use Rattle.cacache_jobs.specs.JobStates.{site_of}
 use Rattle.cacache_keep.specs.Touching.{StopsTouching, Touches}
 use Rattle.cacache_program.specs.{KeepFails.{Fails}, Output.{PutsOut}}
 

@@ -1,7 +1,7 @@
 //! The word `store`.
 ghost use Rattle.std.specs.Prelude.{◌≡◌, ◌≤◌, ℕ, List, IfErr, IfOk, OnOk};
 ghost use Rattle.cacache_sync.specs.content.OpenWrites.{given_up};
-ghost use Rattle.cacache.specs.{Calls.{KeepsRest}, Readers.{FailsToOpen, OpensFile}, Writers.{TriesToRemove}};
+ghost use Rattle.cacache.specs.{Calls.{KeepsRest}, OpenHandles.{FailsToOpen, OpensFile, TriesToRemove}};
 ghost use Rattle.cacache_program.specs.{WordWrite.{AreAllOf}, WordStore.{EndsFile, StoresFile, WentOn}};
 
 use crate::errors::{Errors, tell_failed_call};

@@ -1,6 +1,6 @@
 //! Why a call failed, if the words ask for it.
 ghost use Rattle.std.specs.{Prelude.{◌≡◌, ◌≢◌, Option, Some, None, IfSome, true, false, drop}, declared.io.ErrorKind.{ErrorKind}};
-ghost use Rattle.cacache_core.specs.Contexts.{fault_in, fault_of};
+ghost use Rattle.cacache_core.specs.Errors.{fault_in, fault_of};
 ghost use Rattle.cacache_program.specs.{declared.why.Why.TheVariants.{System, Plain}, Words.{AsksWhy}};
 
 use cacache::errors::{Error, Fault};

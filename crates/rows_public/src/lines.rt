@@ -1,6 +1,6 @@
 //! Answers of public calls, as rows say them.
 ghost use Rattle.std.specs.Prelude.{IfOk};
-ghost use Rattle.cacache.specs.Listings.{IsListing};
+ghost use Rattle.cacache.specs.OpenHandles.{IsListing};
 
 use crate::words::shown;
 use cacache::content::read::Contents;

@@ -1,5 +1,5 @@
 -- The only one of a list.
-use Rattle.std.{proofs.Common.{◌≡◌, ◌<◌, ℕ, zero, suc, List, [], ◌∷◌, arith, sym}, specs.Prelude.{Contains}}
+use Rattle.std.{proofs.Common.{◌≡◌, zero, suc, [], ◌∷◌, arith, sym}, specs.Prelude.{Contains}}
 
 pub only : {X : Type 0} (x y : X) → Contains (x ∷ []) y → y ≡ x
 only x y (zero, lt, e) = sym e

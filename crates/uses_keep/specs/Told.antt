@@ -1,15 +1,15 @@
 -- What the values that calls give say about a cache in memory.
 use Rattle.std.specs.{Prelude.{◌≡◌, ◌⊎◌, ℕ, List, [], Some, IfOk, MatchResult, Result, Vec, map, string_bytes}, Global.{Global}}
-use Rattle.cacache_core.specs.{declared.{errors.Error.{Error, TheVariants.{OutOfMemory}}, integrity.digest.Hash.{Hash}}, Integrity.{Meets}, PathNames.{Names, home_of}}
+use Rattle.cacache_core.specs.{declared.{errors.Error.{Error, TheVariants.{OutOfMemory}}, integrity.digest.Hash.{Hash}}, Integrity.{Meets}, Paths.{Names, home_of}}
 use Rattle.cacache_store.specs.declared.store.log.LogItem.{LogItem}
-use Rattle.cacache_disk.specs.memory.Replay.{tree_of}
-use Rattle.cacache_entry.specs.{Latest.{Found}, View.{found_view}}
+use Rattle.cacache_disk.specs.Replay.{tree_of}
+use Rattle.cacache_entry.specs.{Bucket.{Found}, View.{found_view}}
 use Rattle.cacache_calls.specs.declared.command.Command.TheVariants as commands
 use Rattle.cacache_calls.specs.declared.reply.Reply.TheVariants as replies
 use Rattle.cacache_calls.specs.State.{Site}
 use Rattle.cacache_value.specs.Placed.{Placed}
-use Rattle.cacache_jobs.specs.Sites.{site_of}
-use Rattle.cacache_laws.specs.{Caches.{HasKey, IsCache}, ExportEffects.{IsApart}, Standing.{IsStanding}, trees.{Answers.{AnswersOn}, Collecting.{LeavesLive, LinksLeadOut}, Contents.{content_in}, Housed.{Housed}, Idle.{Removed}, Mending.{found_in}, Verifying.{Judges}}}
+use Rattle.cacache_jobs.specs.JobStates.{site_of}
+use Rattle.cacache_laws.specs.{Caches.{HasKey, IsCache}, ExportEffects.{IsApart}, Standing.{IsStanding}, trees.{Answers.{AnswersOn}, Collecting.{LeavesLive, LinksLeadOut}, Contents.{content_in}, Housed.{Housed}, Idle.{Removed}, Verifying.{found_in, Judges}}}
 use Rattle.cacache_keep.specs.{declared.{collecting.Collected.{Collected}, pruning.Pruned.{Pruned}, repairing.Repaired.{Repaired}, verifying.Verdict.{Verdict}}, Kept.{LeadsToGood, MendsCache}, Sparing.{HasKeyAmong}}
 
 -- ---- verdicts

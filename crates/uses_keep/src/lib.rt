@@ -7,9 +7,9 @@
 mod several;
 
 ghost use Rattle.std.specs.Prelude.{◌≡◌, [], Some, IfOk, map};
-ghost use Rattle.cacache_core.specs.PathNames.{Names as PathNames, home_of};
-ghost use Rattle.cacache_disk.specs.memory.Replay.{tree_of};
-ghost use Rattle.cacache_jobs.specs.Sites.{site_of};
+ghost use Rattle.cacache_core.specs.Paths.{Names as PathNames, home_of};
+ghost use Rattle.cacache_disk.specs.Replay.{tree_of};
+ghost use Rattle.cacache_jobs.specs.JobStates.{site_of};
 ghost use Rattle.cacache_laws.specs.{Caches.{IsCache}, Succeeds.{NamesFolder}, trees.{Collecting.{LinksLeadOut}, Housed.{Housed}, Temporary.{LeavesUntemporary}}};
 ghost use Rattle.cacache_keep.specs.{Behind.{KeepsKeys}, Limits.{IsWithin}};
 ghost use Rattle.uses_keep.specs.Told.{IsMended, JudgesAs, LeavesAs, MendsPlaced, ReadsBeside, ReadsHoused, ReadsPruned, ReadsSpared, ReadsStill, ReadsAsRemoved, ReadsTended, ReadsTidied};

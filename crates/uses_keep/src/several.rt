@@ -1,8 +1,8 @@
 //! Functions of a caller's own over calls that are made of others: a touch, a pruning, an export by the cheapest way, a read of
 //! two caches, and a read that fetches what is lacking.
 ghost use Rattle.std.specs.{Prelude.{◌≡◌, ◌≢◌, ◌⊎◌, ◌<◌, ◌^◌, ℕ, List, None, Some, Vec, Ok, IfErr, IfOk, length, map}, Global.{Global}};
-ghost use Rattle.cacache_core.specs.{declared.{errors.Error.TheVariants.{OutOfMemory}, integrity.digest.Hash.{Hash}}, PathNames.{Names as PathNames, home_of}};
-ghost use Rattle.cacache_disk.specs.memory.Replay.{shown, tree_of};
+ghost use Rattle.cacache_core.specs.{declared.{errors.Error.TheVariants.{OutOfMemory}, integrity.digest.Hash.{Hash}}, Paths.{Names as PathNames, home_of}};
+ghost use Rattle.cacache_disk.specs.Replay.{shown, tree_of};
 ghost use Rattle.cacache_entry.specs.View.{found_view};
 ghost use Rattle.cacache_laws.specs.{Caches.{HasKey, IsCache, LacksKey}, ExportEffects.{IsApart}, OpenWriters.{LeavesKnownCache}, Standing.{IsStanding}, Succeeds.{NamesFolder}, results.Reads.{GivesJust, KeyLiesWhole}};
 ghost use Rattle.cacache_keep.specs.Sparing.{HasKeyAmong};

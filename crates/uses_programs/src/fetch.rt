@@ -2,11 +2,11 @@
 //! missing or damaged; `prune CACHE BYTES` drops the oldest files. A mirror is a folder with the file NAME, and with its headers in
 //! NAME.headers, as lines `name: value`.
 use anyhow::{Result, bail};
-use cacache::env::{Clock, Env, Folders, Names, folders};
+use cacache::env::{Clock, Env, Names, folders};
 use cacache::errors::{Fault, is_damage};
 use cacache::store::Store;
 use cacache::{Error, Integrity, Value, WriteOpts, copy_hash_sync, index, metadata_sync};
-use cacache_keep::{Limits, prune};
+use cacache_keep::{Limits, Pruned, Stamps, prune};
 use std::collections::BTreeMap;
 use std::fs::{self, File};
 use std::io::{self, Seek, SeekFrom, Write};
@@ -130,19 +130,28 @@ fn get<S: Store, C: Clock, N: Names>(
 }
 
 /// Drops the oldest files until the others have at most so many bytes.
-fn shrink(rt: HostRuntime, env: &mut Folders, cache: &str, bytes: u64) -> Result<()> {
+fn shrink<S: Stamps, C: Clock, N: Names>(
+    rt: HostRuntime,
+    env: &mut Env<S, C, N>,
+    cache: &str,
+    bytes: u64,
+) -> Result<()> {
     let limits = Limits {
         bytes: Some(bytes),
         since: None,
     };
-    let pruned = prune(env, cache, limits)?;
-    for entry in &pruned.dropped {
+    let Pruned {
+        dropped,
+        left: _,
+        bytes_before,
+        bytes_after,
+        collected,
+    } = prune(env, cache, limits)?;
+    for entry in &dropped {
         println!(rt; "dropped {} ({} bytes)", entry.key, entry.size)?;
     }
-    println!(rt;
-        "{} of {} bytes are kept",
-        pruned.bytes_after, pruned.bytes_before
-    )?;
+    println!(rt; "{bytes_after} of {bytes_before} bytes are kept")?;
+    collected?;
     Ok(())
 }
 

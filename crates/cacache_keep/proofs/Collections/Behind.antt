@@ -3,20 +3,20 @@
 -- A sweep leaves all but the temporary files in the tree of the log.
 use Rattle.std.proofs.Common.{◌≡◌, ◌⊎◌, inl, inr, ℕ, List, [], ◌∷◌, true, Option, Some, filter_map, refl, sym, ap, subst, ◌∙◌, ◌++◌, Ok, filter, length}
 use Rattle.sha1.specs.Sha1.{sha1}
-use Rattle.cacache_core.specs.{declared.integrity.digest.Hash.{Hash}, Integrity.{IsHash, address}, PathLaws.{IsKeyDigest}, PathNames.{Names, home_of, names_of}, Paths.{joined, content_names, temp_area}}
+use Rattle.cacache_core.specs.{declared.integrity.digest.Hash.{Hash}, Integrity.{IsHash, address}, Laws.{IsKeyDigest}, Paths.{Names, home_of, names_of, joined, content_names, temp_area}}
 use Rattle.cacache_core.proofs.PathLemmas.{keys_have_digests}
 use Rattle.cacache_store.specs.{declared.store.{log.LogItem.{LogItem}, step.Step.TheVariants.{RemoveFile, ReadDir}, answer.{Kind.{Kind}, Name.{Name}}}, Plain.{PlainAnswer}}
-use Rattle.cacache_disk.specs.{memory.Replay.{tree_of, IsLog}, declared.luck.Luck.TheVariants.{Plain}, Apply.{apply}, Rooted.{Rooted}, Tree.{Tree, listing}}
+use Rattle.cacache_disk.specs.{Replay.{tree_of, IsLog}, declared.luck.Luck.TheVariants.{Plain}, Apply.{apply}, Tree.{Rooted, Tree, listing}}
 use Rattle.cacache_disk.proofs.KeptFolders.{steps_keep_rooted}
-use Rattle.cacache_entry.specs.Latest.{Found, latest}
+use Rattle.cacache_entry.specs.Bucket.{Found, latest}
 use Rattle.cacache_calls.specs.{State.{Site}, Runs.{Gains, Moves}}
 use Rattle.cacache_value.{specs.{Acts.{list_of}, Value.{value_of_tree}, Placed.{Placed}}, proofs.Traces.{steps_keep_placed}}
-use Rattle.cacache_history.specs.ShownTurns.{blob_at}
-use Rattle.cacache_laws.specs.{Beside.{IsOther, KeepsBeside, own_integrity}, Caches.{IsCache, HasKey, lies_under}, Keeping.{found_under, KeepsOthers, StaysKnown}, ReadAnswers.{entries_on}, Sequence.{IsSound, tree_on, AreAnswered}, trees.{Collecting.{is_live, Removes}, Contents.{bucket_in, content_in}, Index.{IndexLists}, Mending.{found_in}, Temporary.{LeavesUntemporary, area_of, cache_folder, is_temporary, sized_removals}}}
-use Rattle.cacache_laws.proofs.{Putting.{Puts.{removals_keep, writes_keep, commits_keep, inserts_last}, OpenWriters.{commits_last, writers_open}}, Exports.ExportEffects.{exports_keep}, Spares.Unused.{giving_up_lasts}, Readings.{GivenReads.{same_stays_known}, ReadAnswers.{listing_keeps}}, Removing.RemovedKeys.{removals_last}, trees.{Collected.{live_so}, Twins.Twice.{address_is}, Led.{found_listed}, Logged.{log_rooted, gains_join}, Members.{member_contains}, SoundRemovals.{removals_leave_sound}, Spared.SparedKeys.{more_texts, first_text, spared_keys_stay}, Children.{NoFolder}, Temporary.{AreaStands, area_empty, area_stands, cache_named, names_listed, sweeps_leave, temp_area_named}}, Calls.InParts.{logs_lead}}
+use Rattle.cacache_history.specs.Turns.{blob_at}
+use Rattle.cacache_laws.specs.{Beside.{IsOther, KeepsBeside, own_integrity, found_under, KeepsOthers, StaysKnown}, Caches.{IsCache, HasKey, lies_under}, ReadAnswers.{entries_on}, Sequence.{IsSound, tree_on, AreAnswered}, trees.{Collecting.{is_live, Removes}, Contents.{bucket_in, content_in}, Index.{IndexLists}, Verifying.{found_in}, Temporary.{LeavesUntemporary, area_of, cache_folder, is_temporary, sized_removals}}}
+use Rattle.cacache_laws.proofs.{Putting.{Puts.{removals_keep, writes_keep, commits_keep, inserts_last}, OpenWriters.{commits_last, writers_open}}, Exports.ExportEffects.{exports_keep}, Spares.Unused.{giving_up_lasts}, Readings.{GivenReads.{same_stays_known}, ReadAnswers.{listing_keeps}}, Removing.RemovedKeys.{removals_last}, trees.{Collected.{live_so}, Twins.Twice.{address_is}, Led.{found_listed}, Logged.{log_rooted, gains_join}, Members.{member_contains}, Removed.{removals_leave_sound}, Spared.SparedKeys.{more_texts, first_text, spared_keys_stay}, Children.{NoFolder}, Temporary.{AreaStands, area_empty, area_stands, cache_named, names_listed, sweeps_leave, temp_area_named}}, Calls.InParts.{logs_lead}}
 use Rattle.cacache_keep.specs.{Behind.{CollectionsKeepKeys, Event, Happen, Happens, KeepsKey, LaterKeysStay, LeadsOn, collects, commits, deletes, exports, gives_up, inserts, looks, opens, puts, text_of}, Kept.{LeavesTree, CachesAreSwept}, Later.{CollectedKeysStay, CollectionsKeepLed}, Sweeping.{ListsArea, SweepsCache, swept_folder}}
 use Rattle.cacache_keep.proofs.Collections.Leaving.{leaves_live, steps_done, unused}
-use Rattle.cacache_walks.specs.{Reading.{names_shown}, WalkSteps.{AnswerShows}}
+use Rattle.cacache_walks.specs.{Reading.{names_shown}, WalkStates.{AnswerShows}}
 use Rattle.cacache_store.specs.declared.store.answer.Kind.TheVariants as kinds
 
 -- ---- a collection

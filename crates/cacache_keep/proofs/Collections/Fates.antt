@@ -3,10 +3,10 @@
 use Rattle.std.proofs.{Common.{◌≡◌, ◌+◌, ◌<◌, ◌^◌, ◌-◌, ℕ, List, [], ◌∷◌, ◌++◌, true, false, Option, Ok, Err, inl, inr, arith, drop, filter, get_or, length, length-append, refl, sym, ap, subst, take, ◌∙◌}, lemmas.List.{drop_more, map-append, take-append-drop, take_more}}
 use Rattle.std.specs.Prelude.{min}
 use Rattle.cacache_core.specs.declared.{errors.{Error.{Error, TheVariants.{OutOfMemory}}, Fault.TheVariants.{NotFound}}, integrity.digest.Hash.{Hash}}
-use Rattle.cacache_store.specs.{declared.store.log.LogItem.{LogItem}, Fits.{Fits, Logs}, Plain.{PlainAnswer}}
+use Rattle.cacache_store.specs.{declared.store.log.LogItem.{LogItem}, Plain.{Fits, Logs, PlainAnswer}}
 use Rattle.cacache_store.specs.declared.store.answer.Answer.TheVariants as answers
 use Rattle.cacache_store.specs.declared.store.step.Step.TheVariants as steps
-use Rattle.cacache_calls.specs.{declared.answers.Refusal.{Refusal}, Answers.{done_in}, Common.{fails, refuse}, Runs.{EndsAs}, SingleSteps.{Does}, StepPaths.{content_path}}
+use Rattle.cacache_calls.specs.{declared.answers.Refusal.{Refusal}, Answers.{done_in}, Common.{fails, refuse}, Runs.{EndsAs}, SingleSteps.{Does}, Steps.{content_path}}
 use Rattle.cacache_calls.specs.declared.answers.Refusal.TheVariants as refusals
 use Rattle.cacache_keep.specs.{declared.{dropping.Tally.{Tally}, grace.Fate.{Fate, TheVariants.{Dropped, Young, Gone}}}, Dropping.{Counts, Drops, DropsAll, DropsEach, Met, StopsDropping, StopsUnlinking, count_of, is_fate, one_more, tally_with}, Emptying.{Empties}, Reading.{finds_none}, Rewriting.{StopsSyncingBucket, SyncsBucket}, Syncing.{StopsBuckets, SyncsBuckets}}
 use Rattle.cacache_keep.proofs.{Asked.{kept, passed}, Collections.Sweeps.{refused_fails, removal_refused, still_there}, Repairs.Shown.{none_found}}
@@ -56,9 +56,6 @@ counts_on : (t : Tally) (met : List Met) (i : List Hash) (fate : Fate) → Count
 counts_on t met i Dropped c = record { dropped = more_of Dropped met (i, Dropped) t.dropped refl c.dropped; young = same_of Young met (i, Dropped) t.young refl c.young; gone = same_of Gone met (i, Dropped) t.gone refl c.gone }
 counts_on t met i Young c = record { dropped = same_of Dropped met (i, Young) t.dropped refl c.dropped; young = more_of Young met (i, Young) t.young refl c.young; gone = same_of Gone met (i, Young) t.gone refl c.gone }
 counts_on t met i Gone c = record { dropped = same_of Dropped met (i, Gone) t.dropped refl c.dropped; young = same_of Young met (i, Gone) t.young refl c.young; gone = more_of Gone met (i, Gone) t.gone refl c.gone }
-
-pub none_dropped : (limit : Option ℕ) (cache : List ℕ) (addresses : List (List Hash)) (t : Tally) (log : Option (List LogItem)) → addresses ≡ [] → t.dropped ≡ 0 → t.young ≡ 0 → t.gone ≡ 0 → DropsAll limit cache addresses t log log
-none_dropped limit cache addresses t log none d y g = record { met = []; each = sym none; dropping = refl; counts = record { dropped = d; young = y; gone = g } }
 
 pub one_dropped : (limit : Option ℕ) (cache : List ℕ) (addresses : List (List Hash)) (k : ℕ) (i : List Hash) (fate : Fate) (t more : Tally) (old mid new : Option (List LogItem)) → k < length addresses → i ≡ get_or addresses k i
     → DropsAll limit cache (take k addresses) t old mid → Drops limit (content_path cache i) fate mid new → more ≡ tally_with t fate → DropsAll limit cache (take (k + 1) addresses) more old new

@@ -2,15 +2,15 @@
 -- A collection leaves what is live, and later reads see none of it.
 -- A second collection drops nothing.
 -- Where a key leads after what spares it, on a store that stands: it stays led to the same entry and the same bytes.
-use Rattle.std.proofs.{Common.{◌≡◌, ℕ, List, [], ◌∷◌, ◌++◌, Option, Some, inl, inr, map, length, refl, sym, ap, ap₂, subst, ◌∙◌, arith, filter, Bool, true, false, cond, None, ◌⊎◌, ◌<◌, filter_map}, lemmas.List.{length-map, Filters.{length-filter_both}, Kept.{IsStrictlySortedBy-filter}}}
+use Rattle.std.proofs.{Common.{◌≡◌, ℕ, List, [], ◌∷◌, ◌++◌, Option, Some, inl, inr, map, length, refl, sym, ap, ap₂, subst, ◌∙◌, arith, filter, Bool, true, false, cond, None}, lemmas.List.{length-map, Filters.{length-filter_both}, Kept.{IsStrictlySortedBy-filter}}}
 use Rattle.std.specs.Prelude.{not, Contains}
-use Rattle.cacache_core.specs.{declared.{errors.Fault.TheVariants.{NotFound}, integrity.digest.Hash.{Hash}}, PathNames.{Names, home_of}, Paths.{joined, content_names}}
+use Rattle.cacache_core.specs.{declared.{errors.Fault.TheVariants.{NotFound}, integrity.digest.Hash.{Hash}}, Paths.{Names, home_of, joined, content_names}}
 use Rattle.cacache_store.specs.declared.store.{log.LogItem.{LogItem}, step.Step.TheVariants.{RemoveFile}}
-use Rattle.cacache_disk.specs.{memory.Replay.{tree_of, IsLog}, declared.luck.Luck.TheVariants.{Plain}, Tree.{Tree}, Apply.{apply}, Rooted.{Rooted}}
-use Rattle.cacache_entry.specs.Latest.{Found}
-use Rattle.cacache_calls.specs.{State.{Site}, Runs.{Moves, Gains}, StepPaths.{content_path}, declared.{reply.Reply.TheVariants.{Listed}, command.Command.{Command}}}
-use Rattle.cacache_laws.specs.{Sequence.{tree_on, AreAnswered}, trees.{Contents.{HoldsJust, IsHeld}, Index.{IndexLists}, Collecting.{LeavesLive, Removes, is_live, ReadsAsBefore}, Later.{SparingCall, calls, written}}, Caches.{HasKey}, Standing.{IsStanding}}
-use Rattle.cacache_laws.proofs.{Calls.InParts.{logs_lead}, trees.{Listing.{holdings_agree, indexes_agree, same_sorted}, Indexed.{holds_just}, Logged.{answered_rest, answered_split, gains_join, log_rooted, tree_rest, walked}, Collected.{lacks, leaves, others_gone, picked_left, rest_stays, from_kept, kept_in}, Removed.{removals_run}, Members.{Member, contains_member, member_contains}, Twins.Follows.{idle_is_unseen}, Spared.SparedKeys.{spared_keys_stay}}, Readings.GivenReads.{same_stays_known}}
+use Rattle.cacache_disk.specs.{Replay.{tree_of, IsLog}, declared.luck.Luck.TheVariants.{Plain}, Tree.{Tree, Rooted}, Apply.{apply}}
+use Rattle.cacache_entry.specs.Bucket.{Found}
+use Rattle.cacache_calls.specs.{State.{Site}, Runs.{Moves, Gains}, Steps.{content_path}, declared.reply.Reply.TheVariants.{Listed}}
+use Rattle.cacache_laws.specs.{Sequence.{tree_on, AreAnswered}, trees.{Contents.{HoldsJust, IsHeld}, Index.{IndexLists}, Collecting.{LeavesLive, Removes, is_live, ReadsAsBefore}}, Caches.{HasKey}, Standing.{IsStanding}}
+use Rattle.cacache_laws.proofs.{Calls.InParts.{logs_lead}, trees.{Listing.{holdings_agree, indexes_agree, same_sorted}, Indexed.{holds_just}, Logged.{answered_rest, answered_split, gains_join, log_rooted, tree_rest, walked}, Collected.{lacks, leaves, others_gone, picked_left, rest_stays, from_kept, kept_in}, Removed.{removals_run}, Members.{Member, contains_member, member_contains}, Twins.Follows.{idle_is_unseen}}, Readings.GivenReads.{same_stays_known}}
 use Rattle.cacache_walks.specs.{Listing.{content_area_in, hash_cmp}, Reading.{top_folder}}
 use Rattle.cacache_keep.specs.{Calls.{has_entry, removal, MadeCalls}, Keeping.{Chooses, CollectsFrom}, Kept.{PlansForetell, PlansLeave, CollectionsLackIdle, CollectionsLeave, CollectionsSettle}, Planning.{Sized, TellsSizes}, Sparing.{StaysLed}}
 use Rattle.cacache_keep.proofs.{Stopped.{calls_gain, gains_none, Keeps, gained, then_keeps}, Repairs.Judged.{index_looked}, Collections.Searching.{hash_total}, Asked.{none_kept}}
@@ -241,14 +241,7 @@ collections_settle site home kept again dropped others old collected later new i
       none_dropped site home (tree_of old) (tree_of collected) (tree_of new) kept again dropped others one two unseen,
     )
 
-held_same : (bytes held : List ℕ) (texts : List (List ℕ)) → texts ≡ [] → (held ≡ bytes) ⊎ Contains texts held → held ≡ bytes
-held_same bytes held texts none (inl same) = same
-held_same bytes held texts none (inr c) = absurd (let no : Contains [] held = subst (λ (l : List (List ℕ)). Contains l held) none c in let low : no.0 < 0 = no.1 in omega (arith, low))
-
 module _ (cache key bytes : List ℕ) (i : List Hash) where
-  pub then_led : (old mid new : List LogItem) → StaysLed cache key i bytes old mid → StaysLed cache key i bytes mid new → StaysLed cache key i bytes old new
-  then_led old mid new a b = record { standing = b.standing; finds = b.finds ∙ a.finds; has = b.has }
-
   -- the tree is the same
   pub same_led : (old new : List LogItem) → tree_of new ≡ tree_of old → IsStanding cache old → HasKey cache key i bytes old → StaysLed cache key i bytes old new
   same_led old new same standing has =
@@ -262,10 +255,3 @@ module _ (cache key bytes : List ℕ) (i : List Hash) where
   -- the moves leave each tree
   pub keeps_led : (old new : List LogItem) → Keeps (Some old) (Some new) → IsLog new → IsStanding cache old → HasKey cache key i bytes old → StaysLed cache key i bytes old new
   keeps_led old new k logged = same_led old new ((logs_lead old new k.moves k.gains logged).1 ∙ k.stays (tree_of old))
-
-  -- a call spares the key and writes no text
-  pub call_led : (command : Command) (old new : List LogItem) → filter_map written (calls command ∷ []) ≡ [] → IsLog new → SparingCall cache key i command old new → IsStanding cache old → HasKey cache key i bytes old → StaysLed cache key i bytes old new
-  call_led command old new none logged spares standing has =
-      let s = spared_keys_stay cache key i bytes (calls command ∷ []) old new standing has (new, logged, spares, refl) in
-      let same = held_same bytes s.held (filter_map written (calls command ∷ [])) none s.which in
-      record { standing = s.standing; finds = s.finds; has = subst (λ (b : List ℕ). HasKey cache key i b new) same s.has }

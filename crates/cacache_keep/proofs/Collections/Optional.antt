@@ -2,15 +2,14 @@
 use Rattle.std.proofs.Common.{◌≡◌, inl, inr, ℕ, List, [], ◌∷◌, ◌++◌, Bool, true, false, Option, Some, Result, Ok, Err, map, refl, sym, ap, subst, ◌∙◌, filter}
 use Rattle.std.specs.Prelude.{Contains, not}
 use Rattle.sha1.specs.Sha1.{sha1}
-use Rattle.cacache_core.specs.{declared.{errors.{Error.{Error, TheVariants.{IoError, OutOfMemory}}, Fault.{Fault, TheVariants.{NotFound}}}, integrity.digest.Hash.{Hash}}, Integrity.{IsHash, address}, Meeting.{lists}, PathLaws.{IsKeyDigest}, PathNames.{Names, home_of, names_of}, Paths.{joined, content_names}}
+use Rattle.cacache_core.specs.{declared.{errors.{Error.{Error, TheVariants.{IoError, OutOfMemory}}, Fault.{Fault, TheVariants.{NotFound}}}, integrity.digest.Hash.{Hash}}, Integrity.{IsHash, address}, Matching.{lists}, Laws.{IsKeyDigest}, Paths.{Names, home_of, names_of, joined, content_names}}
 use Rattle.cacache_core.proofs.{Meeting.{lists_finds}, PathLemmas.{keys_have_digests}}
 use Rattle.cacache_store.specs.{declared.store.log.LogItem.{LogItem}, Plain.{PlainStep, PlainAnswer}}
 use Rattle.cacache_store.specs.declared.store.answer.Answer.TheVariants as answers
 use Rattle.cacache_store.specs.declared.store.step.Step.TheVariants as steps
-use Rattle.cacache_disk.specs.{memory.Replay.{tree_of, IsLog}, declared.luck.Luck.TheVariants.{Plain}, Tree.{Tree}, Apply.{apply}, Rooted.{Rooted}}
-use Rattle.cacache_disk.proofs.KeptFolders.{steps_keep_rooted}
-use Rattle.cacache_calls.specs.{Runs.{Gains, Moves}, SingleSteps.{Does, FailsAt}, State.{Site}, StepPaths.{content_path}}
-use Rattle.cacache_value.specs.{Acts.{DropFolder, Drop, act_at, act_if_done, act_of, change}, Placed.{Placed}, Value.{Value, value_of_tree, wide_value}}
+use Rattle.cacache_disk.{specs.{Replay.{tree_of, IsLog}, declared.luck.Luck.TheVariants.{Plain}, Tree.{Tree, Rooted}, Apply.{apply}}, proofs.KeptFolders.{steps_keep_rooted}}
+use Rattle.cacache_calls.specs.{Runs.{Gains, Moves}, SingleSteps.{Does, FailsAt}, State.{Site}, Steps.{content_path}}
+use Rattle.cacache_value.specs.{Acts.{DropFolder, act_at, act_if_done, act_of, change}, Placed.{Placed}, Value.{Value, value_of_tree, wide_value}}
 use Rattle.cacache_value.proofs.Traces.{steps_act, steps_keep_placed}
 use Rattle.cacache_loss.{specs.Fixing.{is_sync}, proofs.KeptPaths.{sync_tree}}
 use Rattle.cacache_laws.specs.{Caches.{HasContent}, Sequence.{tree_on, AreAnswered}, Standing.{IsStanding}, trees.{Collecting.{is_live}, Contents.{bucket_in, content_in}}}
@@ -121,10 +120,6 @@ module _ (cache : List ℕ) (home : Names) (is : home_of cache ≡ Some home) (h
       only : (g h : Hash) → Member g (h ∷ []) → g ≡ h
       only g h (inl same) = same
       only g h (inr none) = absurd none
-
-  -- a removal that failed leaves the value
-  failed_value : (fault : Fault) (r : Result Names Fault) (v : Value) → change (Some home) (act_if_done (answers.Failed fault) (act_at r Drop)) v ≡ v
-  failed_value fault r v = refl
 
   pub unremoved : (p : List ℕ) (fault : Fault) (old new : Option (List LogItem)) → Does (steps.RemoveFile p) (answers.Failed fault) old new → Tidies old new
   unremoved p fault old new does = one (steps.RemoveFile p) (answers.Failed fault) old new does (λ all t placed rooted answered.

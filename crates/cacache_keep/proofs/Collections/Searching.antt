@@ -2,9 +2,9 @@
 -- Contents that are removed, one after another.
 use Rattle.std.proofs.{Common.{◌≡◌, ◌+◌, ◌<◌, ◌≤◌, ℕ, List, [], ◌∷◌, ◌++◌, Bool, true, false, Option, Some, Ok, Err, Result, refl, sym, ap, ap₂, subst, ◌∙◌, map, length, length-append, arith, get_or, take, drop}, lemmas.List.{map-append, take_more, drop_more, take-append-drop, Elements.{All-append, All-cons, All-nil, filter_agree}, Sorted.{searchable_from_sorted}}}
 use Rattle.std.specs.{Prelude.{All, Contains, IsTrue, ◌↔◌, ◌||◌, is_ok, not}, List.Sorted.{IsBinarySearchResult, IsSearchInRange, IsSorted}, declared.cmp.Ordering.TheVariants.{Equal}, Ordering.{eq_by_cmp, is_eq}, Cmp.{IsTotalOrder, then_total, on_total, nat_cmp_total, unsigned_ties, both_tied, Lexicographic.{nat_list_cmp_total, texts_ties}}}
-use Rattle.cacache_core.specs.{declared.{integrity.digest.Hash.{Hash}, errors.Error.{Error}}, Integrity.{IsIntegrity, address, rank}, Meeting.{lists}, Same.{same_hash, same_hash-Decides}}
+use Rattle.cacache_core.specs.{declared.{integrity.digest.Hash.{Hash}, errors.Error.{Error}}, Integrity.{IsIntegrity, address, rank}, Matching.{lists}, Comparing.{same_hash, same_hash-Decides}}
 use Rattle.cacache_core.proofs.Meeting.{lists_finds}
-use Rattle.cacache_entry.specs.Latest.{Found}
+use Rattle.cacache_entry.specs.Bucket.{Found}
 use Rattle.cacache_walks.specs.Listing.{hash_cmp}
 use Rattle.cacache_laws.specs.trees.Collecting.{is_address, is_live}
 use Rattle.cacache_keep.{specs.Calls.{AreOthers, AreUnused, has_address_in, has_entry, MadeCalls, StopsRemoving, removal}, proofs.Asked.{kept, passed, mapped_on}}

@@ -1,9 +1,9 @@
 -- Contents that are asked for their sizes, one after another.
 use Rattle.std.proofs.{Common.{◌≡◌, false, inl, ℕ, List, [], ◌∷◌, ◌++◌, Option, Err, refl, sym, ap, subst, ◌∙◌, map, append_assoc}, lemmas.List.{map-append}}
 use Rattle.cacache_core.specs.declared.{errors.Error.{Error, TheVariants.{OutOfMemory}}, integrity.digest.Hash.{Hash}}
-use Rattle.cacache_store.specs.{declared.store.log.LogItem.{LogItem}, Fits.{Fits, Logs}, Plain.{PlainAnswer}}
+use Rattle.cacache_store.specs.{declared.store.log.LogItem.{LogItem}, Plain.{Fits, Logs, PlainAnswer}}
 use Rattle.cacache_store.specs.declared.store.step.Step.TheVariants as steps
-use Rattle.cacache_calls.specs.{declared.answers.Refusal.{Refusal}, Answers.{length_in}, Common.{fails, refuse}, Runs.{EndsAs}, SingleSteps.{FailsAt}, StepPaths.{content_path}}
+use Rattle.cacache_calls.specs.{declared.answers.Refusal.{Refusal}, Answers.{length_in}, Common.{fails, refuse}, Runs.{EndsAs}, SingleSteps.{FailsAt}, Steps.{content_path}}
 use Rattle.cacache_keep.specs.{declared.planning.Unused.{Unused}, Planning.{HidesFirst, HidesSize, Sized, StopsTelling, TellsSize, TellsSizes, sized_of}, Reading.{finds_none}}
 use Rattle.cacache_keep.proofs.Collections.Sweeps.{still_there, refused_fails, size_refused}
 

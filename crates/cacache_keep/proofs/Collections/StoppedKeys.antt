@@ -2,18 +2,18 @@
 use Rattle.std.proofs.{Common.{◌≡◌, inl, inr, ℕ, List, [], ◌∷◌, ◌++◌, true, false, Option, Some, map, refl, sym, ap, ap₂, subst, ◌∙◌, arith, filter}, lemmas.List.Elements.{All-cons, All-head, All-nil, All-tail}}
 use Rattle.std.specs.Prelude.{All, Contains, not}
 use Rattle.sha1.specs.Sha1.{sha1}
-use Rattle.cacache_core.specs.{declared.{errors.Error.{Error}, integrity.{algorithm.Algorithm.{Algorithm, TheVariants.{Sha1}}, digest.Hash.{Hash}}}, Integrity.{IsHash, IsIntegrity, address, strongest_first}, PathNames.{Names, home_of}}
+use Rattle.cacache_core.specs.{declared.{errors.Error.{Error}, integrity.{algorithm.Algorithm.{Algorithm, TheVariants.{Sha1}}, digest.Hash.{Hash}}}, Integrity.{IsHash, IsIntegrity, address, strongest_first}, Paths.{Names, home_of}}
 use Rattle.cacache_core.proofs.PathLemmas.{keys_have_digests}
 use Rattle.cacache_store.specs.declared.store.log.LogItem.{LogItem, TheVariants.{Made}}
-use Rattle.cacache_disk.specs.{Tree.{Tree}, memory.Replay.{tree_of, IsLog}}
-use Rattle.cacache_entry.specs.Latest.{Found, latest}
+use Rattle.cacache_disk.specs.{Tree.{Tree}, Replay.{tree_of, IsLog}}
+use Rattle.cacache_entry.specs.Bucket.{Found, latest}
 use Rattle.cacache_calls.specs.declared.command.Command.TheVariants as commands
 use Rattle.cacache_calls.specs.declared.reply.Reply.TheVariants as replies
 use Rattle.cacache_calls.specs.{declared.{command.Command.{Command}, reply.Reply.{Reply}}, Runs.{Gains, Moves, Ran, without_message}, State.{Site}, Table.{opening}, Walking.{most}}
 use Rattle.cacache_value.specs.Value.{value_of_tree}
 use Rattle.cacache_walks.specs.{Listing.{ListsContents, content_area_in}, Reading.{top_folder}}
-use Rattle.cacache_laws.specs.{Beside.{ShareAddress}, Caches.{Called, HasKey, IsCache}, Keeping.{found_under}, Looks.{OnlyLooks}, ReadAnswers.{entries_on}, Sequence.{IsSound}, trees.{Collecting.{IsCollected, Removes, is_live}, Contents.{content_in}, Mending.{found_in}}}
-use Rattle.cacache_laws.proofs.{Calls.{InParts.{logs_lead}, Logs.{some_same}, CallErrors.{plain_error}}, Readings.{GivenReads.{same_stays_known}, OpenReaders.{log_front}}, Removing.Removed.{contents_go}, trees.{Collected.{from_kept, live_so}, Keeping.{removals_leave}, Led.{found_listed}, Logged.{gains_join, log_rooted}, Members.{Member, contains_member, member_contains}, SoundRemovals.{removals_leave_sound}}}
+use Rattle.cacache_laws.specs.{Beside.{ShareAddress, found_under}, Caches.{Called, HasKey, IsCache}, Looks.{OnlyLooks}, ReadAnswers.{entries_on}, Sequence.{IsSound}, trees.{Collecting.{IsCollected, Removes, is_live}, Contents.{content_in}, Verifying.{found_in}}}
+use Rattle.cacache_laws.proofs.{Calls.{InParts.{logs_lead}, Replays.{some_same}, CallErrors.{plain_error}}, Readings.{GivenReads.{same_stays_known}, OpenReaders.{log_front}}, Removing.Removed.{contents_go}, trees.{Collected.{from_kept, live_so}, Keeping.{removals_leave}, Led.{found_listed}, Logged.{gains_join, log_rooted}, Members.{Member, contains_member, member_contains}, Removed.{removals_leave_sound}}}
 use Rattle.cacache_keep.specs.{Behind.{KeepsKeys, StoppedKeepKeys}, Calls.{Asks, ListsEntries, MadeCalls, StopsReading, StopsRemoving, has_entry, removal}, Keeping.{Chooses, StopsEarly}}
 use Rattle.cacache_keep.proofs.{Collections.{Behind.{found_same, key_same}, Leaving.{Choice, choice, removals, removals_gain, removed_by, unused_ones}}, Stopped.{AllLook, folders_look, index_keeps, stops_look, gained, then_keeps, Keeps, made_looks}}
 

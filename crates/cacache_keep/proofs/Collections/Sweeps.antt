@@ -3,7 +3,7 @@ use Rattle.std.proofs.{Common.{◌≡◌, ◌+◌, ◌-◌, ◌^◌, ◌<◌, in
 use Rattle.std.specs.{Prelude.{min}, List.{sum}}
 use Rattle.cacache_core.specs.{declared.errors.Error.{Error, TheVariants.{OutOfMemory}}, Paths.{join}}
 use Rattle.cacache_store.specs.declared.store.answer.Answer.TheVariants as answers
-use Rattle.cacache_store.specs.{declared.store.{answer.Name.{Name}, log.LogItem.{LogItem}}, Fits.{Fits, Logs}, Plain.{PlainAnswer}}
+use Rattle.cacache_store.specs.{declared.store.{answer.Name.{Name}, log.LogItem.{LogItem}}, Plain.{Fits, Logs, PlainAnswer}}
 use Rattle.cacache_store.specs.declared.store.step.Step.TheVariants as steps
 use Rattle.cacache_calls.specs.{declared.answers.Refusal.{Refusal}, Answers.{length_in, names_in}, Common.{fails, refuse}, Runs.{EndsAs, Gains, Moves}, SingleSteps.{Does, FailsAt}}
 use Rattle.cacache_laws.{proofs.trees.Logged.{gains_join}, specs.trees.Temporary.{sized_removals, total}}

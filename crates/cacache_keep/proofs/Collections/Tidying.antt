@@ -1,8 +1,8 @@
 -- Reads after collections and removals answer as they may without the collections.
 use Rattle.std.proofs.Common.{◌≡◌, ◌⊎◌, inl, inr, ℕ, List, [], ◌∷◌, true, false, Option, None, Some, filter_map, refl, sym, ap, ◌∙◌}
-use Rattle.cacache_core.specs.PathNames.{Names, home_of}
+use Rattle.cacache_core.specs.Paths.{Names, home_of}
 use Rattle.cacache_store.specs.declared.store.log.LogItem.{LogItem}
-use Rattle.cacache_disk.specs.{declared.node.Node.TheVariants.{Link}, Tree.{Tree, look}, memory.Replay.{tree_of}}
+use Rattle.cacache_disk.specs.{declared.node.Node.TheVariants.{Link}, Tree.{Tree, look}, Replay.{tree_of}}
 use Rattle.cacache_calls.specs.{declared.command.Command.{Command}, State.{Site}}
 use Rattle.cacache_laws.proofs.{Readings.Looks.{tree_stays}, trees.Twins.{Cleared.{still_lacks_idle}, Fully.{lacks_at}, Twice.{bucket_read}, Follows.{idle_is_unseen}}}
 use Rattle.cacache_laws.specs.trees.{Collecting.{LinksLeadOut}, Idle.{IsIdle, IsNeeded, LacksIdle}, Walks.{is_leaf}}

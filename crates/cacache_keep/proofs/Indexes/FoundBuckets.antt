@@ -1,17 +1,17 @@
 -- What the listings of an index find, and that they leave the tree.
 use Rattle.std.proofs.{Common.{◌≡◌, inl, inr, ℕ, suc, List, [], ◌∷◌, ◌++◌, Bool, true, false, cond, Option, Some, Ok, map, filter, length, refl, sym, ap, subst, ◌∙◌, arith, append_assoc}, lemmas.{Bool.{and_parts}, List.Elements.{All-cons, All-nil}}, ByRecursion.{All-append}}
 use Rattle.std.specs.List.{AllByRecursion, flat_map}
-use Rattle.cacache_core.specs.{declared.errors.Error.{Error}, PathNames.{Names, names_of, home_of, IsProperName}, Paths.{index_area, join}}
+use Rattle.cacache_core.specs.{declared.errors.Error.{Error}, Paths.{Names, names_of, home_of, IsProperName, index_area, join}}
 use Rattle.cacache_core.proofs.{JoinedNames.{joined_texts_name}, ProperNames.{proper_bucket_folder}}
 use Rattle.cacache_store.specs.{declared.store.{answer.Name.{Name}, log.LogItem.{LogItem}}, Plain.{PlainAnswer}}
 use Rattle.cacache_store.specs.declared.store.answer.Kind.TheVariants as kinds
 use Rattle.cacache_store.specs.declared.store.step.Step.TheVariants as steps
-use Rattle.cacache_disk.specs.{declared.{luck.Luck.TheVariants.{Plain}, node.Node.{Node, TheVariants.{Folder, File}}}, Tree.{Tree, kind_of, look}, Apply.{apply}, Rooted.{Rooted}}
+use Rattle.cacache_disk.specs.{declared.{luck.Luck.TheVariants.{Plain}, node.Node.{Node, TheVariants.{Folder, File}}}, Tree.{Tree, kind_of, look, Rooted}, Apply.{apply}}
 use Rattle.cacache_disk.proofs.Standing.{upper_folder}
 use Rattle.cacache_laws.proofs.{Readings.ReadAnswers.{listing_keeps}, trees.{Children.{FolderShows, Stands, child_listed, folder_shown, listed, missing, proper_child, shown_stands}, Covering.{named_on}, Collected.{kept_in}, Members.{Member, in_left, in_right}, Temporary.{file_node}}}
 use Rattle.cacache_laws.specs.trees.Temporary.{is_file}
 use Rattle.cacache_walks.specs.Reading.{names_shown}
-use Rattle.cacache_value.{specs.Kinds.{Bucket, path_kind}, proofs.KindsApart.{kind-below}}
+use Rattle.cacache_value.{specs.Kinds.{Bucket, path_kind}, proofs.PathKinds.{kind-below}}
 use Rattle.cacache_keep.specs.{Buckets.{FindsBuckets, Listed, ListsInTurn, ListsParts, StopsFinding, StopsNextPart, StopsParts, belongs, index_area_in, is_hex_name, parts_in}, Sweeping.{ListsFolder}}
 use Rattle.cacache_keep.proofs.TreeRuns.{Leads, leads_as, leads_failed, leads_none, leads_step, leads_then}
 

@@ -2,7 +2,7 @@
 -- The names of a key's bucket are hex digits.
 use Rattle.std.proofs.{Common.{◌≡◌, ℕ, suc, List, [], ◌∷◌, ◌++◌, Bool, true, false, cond, Option, Some, Ok, length, map, filter, refl, sym, ap, subst, ◌∙◌, arith, append_assoc, eqb-true, ◌<◌, ◌/◌, ◌%◌, zero, take, drop, slice_index, length-drop}, lemmas.{Bool.{and_parts, and_from, eq-eqb}, List.{length-take-le, Folds.{list_any_at}}}, ByRecursion.{All-append}}
 use Rattle.std.specs.{List.{AllByRecursion, flat_map, list_all, list_any}, Prelude.{IfOk, not}}
-use Rattle.cacache_core.specs.{PathNames.{Names, names_of, home_of, IsProperName}, Paths.{index_area, join}, PathLaws.{IsKeyDigest}}
+use Rattle.cacache_core.specs.{Paths.{Names, names_of, home_of, IsProperName, index_area, join}, Laws.{IsKeyDigest}}
 use Rattle.cacache_store.specs.declared.store.{answer.Name.{Name}, log.LogItem.{LogItem}}
 use Rattle.cacache_value.specs.Kinds.{Bucket, path_kind}
 use Rattle.cacache_laws.{specs.trees.Temporary.{is_file}, proofs.trees.Covering.{named_on}}

@@ -2,9 +2,9 @@
 use Rattle.std.proofs.{Common.{◌≡◌, inl, inr, ◌<◌, List, [], ◌∷◌, ◌++◌, ℕ, Bool, true, false, cond, Option, None, Some, Result, Ok, Err, IfOk, IfErr, length, option_map, map, refl, sym, ap, subst, ◌∙◌, arith}, lemmas.List.Elements.{filter_map-append}}
 use Rattle.std.specs.{List.{cons_option}, Option.{option_to_list}}
 use Rattle.cacache_core.specs.declared.errors.Error.{Error, TheVariants.{OutOfMemory}}
-use Rattle.cacache_store.specs.{declared.store.log.LogItem.{LogItem, TheVariants.{Made}}, Fits.{Fits, Logs, is_no_memory}, Plain.{PlainStep, PlainAnswer}}
+use Rattle.cacache_store.specs.{declared.store.log.LogItem.{LogItem, TheVariants.{Made}}, Plain.{Fits, Logs, is_no_memory, PlainStep, PlainAnswer}}
 use Rattle.cacache_calls.specs.{declared.{reply.Reply.TheVariants.{Done, Listed, Refused}, visit.Visit.{Visit}}, Runs.{EndsAs, Gains, Goes, Moves, effort, plain_item, without_message}, State.{Site, State, over}, Table.{after, wants}, Walking.{after_visit, visit_step}}
-use Rattle.cacache_calls.proofs.{Effort.{falls}, Going.{answer_cases, gains_one, goes_lost, goes_on, goes_over, no_gain, unmoved}, ListReplies.{lists_shown}, Memory.{memory_said, no_memory_after}}
+use Rattle.cacache_calls.proofs.{Effort.{falls}, Going.{answer_cases, gains_one, goes_lost, goes_on, goes_over, no_gain, unmoved, memory_said, no_memory_after}, ListReplies.{lists_shown}}
 use Rattle.cacache_walks.specs.{declared.walk.Walk.{Walk}, Iterating.{listing_state, steps_left}, WalkStates.{GoesOn, WalkLeads, WalksAt, pending, walk_of}}
 use Rattle.cacache_keep.specs.{Checking.{bucket_read, odd_in, odd_read}, Walking.{IsTold, LosesIndex, MeetsIndex, VisitGoes, VisitStops, WalksIndex, entry_at}}
 use Rattle.cacache_keep.proofs.Indexes.ListedEntries.{told}

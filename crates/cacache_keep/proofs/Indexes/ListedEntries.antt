@@ -4,7 +4,7 @@ use Rattle.std.specs.List.{cons_option, list_any}
 use Rattle.cacache_core.specs.declared.errors.{Error.{Error}, Fault.{Fault, TheVariants.{TooDeep}}}
 use Rattle.cacache_store.specs.Plain.{PlainAnswer}
 use Rattle.cacache_store.specs.declared.store.answer.Answer.TheVariants as answers
-use Rattle.cacache_entry.specs.{Entry.{Entry}, Bucket.{entries_of}, Latest.{latest}}
+use Rattle.cacache_entry.specs.{Entry.{Entry}, Bucket.{entries_of, latest}}
 use Rattle.cacache_calls.specs.{declared.{reply.Reply.TheVariants.{Done, Listed, Refused}, visit.{Visit.{Visit, TheVariants.{ReadBucket}}, Task.{Task, TheVariants.{Make, Stumble}}}}, Common.{fails}, Runs.{plain_item}, State.{Item, State, Walk, over, walking}, Walking.{after_visit, failed, give, items_in, most, once, visit_step, walk_on}}
 use Rattle.cacache_walks.specs.{declared.walk.Walk.{Walk as Walked}, WalkStates.{WalksAt, walk_of}}
 use Rattle.cacache_laws.specs.trees.Compacting.{Line, decision, is_odd, lines_of}

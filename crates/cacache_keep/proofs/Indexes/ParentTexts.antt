@@ -1,7 +1,7 @@
 -- The text of the folder that holds a bucket's path.
 use Rattle.std.proofs.{Common.{◌≡◌, ◌+◌, ◌-◌, ◌≤◌, ◌<◌, ◌==◌, ℕ, zero, suc, List, [], ◌∷◌, ◌++◌, Bool, true, false, cond, Some, length, take, drop, slice_index, refl, sym, ap, ◌∙◌, arith, append_assoc, length-append, eqb-true, bytes_eq}, Math.Seq.{take-append_seam, get_or-append-add, get_or-append_seam}, lemmas.{Bool.{and_parts, eq-eqb, and_right}, Slice.Eq.{bytes_eq-Decides}, List.{take_all}}}
 use Rattle.std.specs.{List.{list_all, list_any}, Path.{is_trailing, path_parent, rfind_below, root_dir, rsplit_once, split_last_component, trim_trailing, trimmed_len}, Prelude.{unwrap_or}}
-use Rattle.cacache_core.specs.{PathNames.{IsProperName, ends_name}, Paths.{join}}
+use Rattle.cacache_core.specs.Paths.{IsProperName, ends_name, join}
 use Rattle.cacache_keep.specs.{Buckets.{is_hex_digit}, Rewriting.{folder_of}}
 
 -- ---- hex digits

@@ -1,15 +1,15 @@
 -- The compaction of a bucket leaves what is fixed of other paths.
 use Rattle.std.proofs.Common.{◌≡◌, ◌⊎◌, inl, inr, ℕ, List, [], ◌∷◌, ◌++◌, Bool, true, false, drop, take, Option, Some, Ok, refl, sym, ap, subst, ◌∙◌, append-nil}
 use Rattle.std.specs.Prelude.{IfOk}
-use Rattle.cacache_core.specs.{declared.errors.Error.{Error}, PathNames.{Names, home_of, names_of}, Paths.{temp_area, temp_names}}
+use Rattle.cacache_core.specs.{declared.errors.Error.{Error}, Paths.{Names, home_of, names_of, temp_area, temp_names}}
 use Rattle.cacache_store.specs.declared.store.answer.Answer.TheVariants as answers
 use Rattle.cacache_store.specs.{declared.store.{log.LogItem.{LogItem}, plain.PlainTemp.{PlainTemp}}, Plain.{PlainStep}}
 use Rattle.cacache_store.specs.declared.store.step.Step.TheVariants as steps
 use Rattle.cacache_disk.specs.Tree.{Tree}
-use Rattle.cacache_calls.specs.{Runs.{Moves}, SingleSteps.{Does, FailsAt}, StepPaths.{temp_folder, temp_path}}
-use Rattle.cacache_value.{specs.Kinds.{PathKind, Temporary, path_kind}, proofs.KindsApart.{kind-below}}
+use Rattle.cacache_calls.specs.{Runs.{Moves}, SingleSteps.{Does, FailsAt}, Steps.{temp_folder, temp_path}}
+use Rattle.cacache_value.{specs.Kinds.{PathKind, Temporary, path_kind}, proofs.PathKinds.{kind-below}}
 use Rattle.cacache_laws.{specs.{Sequence.{AreAnswered}, trees.Compacting.{compact_text}}, proofs.Calls.InParts.{writing_keeps}}
-use Rattle.cacache_loss.{specs.{Fixing.{is_at}, Moments.{Moment}}, proofs.UnchangedPaths.{at_false}}
+use Rattle.cacache_loss.{specs.{Fixing.{is_at}, Moments.{Moment}}, proofs.Reaching.{at_false}}
 use Rattle.cacache_keep.specs.{Compacting.{Bucket, CompactsBucket, RewritesIf, StopsBucket, StopsUnchanged, is_loose}, Rewriting.{MakesTemp, Rewrites, StopsMaking, StopsMoving, StopsRewriting, StopsSecuring, StopsSyncingBucket, StopsWriting, SyncsBucket, SyncsFolder, Takes, TakesNone, Took, folder_of}}
 use Rattle.cacache_keep.proofs.{Losses.ApartSteps.{Apart, EachApart, apart_join, Fixes, fixes_failed, fixes_none, fixes_step, fixes_then}, NewBuckets.Rewritten.{Has, temp_made, temp_path_named, wrote_has, writes_take}}
 

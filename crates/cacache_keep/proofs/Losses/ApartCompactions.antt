@@ -1,12 +1,12 @@
 -- A compaction leaves what is fixed of the folders of its buckets.
 use Rattle.std.{proofs.Common.{◌≡◌, inl, inr, ℕ, List, [], ◌∷◌, Bool, true, false, map, Option, Some, sym, subst}, specs.List.{AllByRecursion}}
-use Rattle.cacache_core.specs.{declared.errors.Error.{Error}, PathNames.{Names, home_of, names_of}}
+use Rattle.cacache_core.specs.{declared.errors.Error.{Error}, Paths.{Names, home_of, names_of}}
 use Rattle.cacache_store.specs.declared.store.answer.Answer.TheVariants as answers
 use Rattle.cacache_store.specs.{declared.store.log.LogItem.{LogItem}, Plain.{PlainStep}}
 use Rattle.cacache_calls.specs.SingleSteps.{FailsAt}
 use Rattle.cacache_store.specs.declared.store.step.Step.TheVariants as steps
 use Rattle.cacache_value.specs.Kinds.{Bucket as IsBucket, Way, path_kind}
-use Rattle.cacache_loss.proofs.UnchangedPaths.{at_false}
+use Rattle.cacache_loss.proofs.Reaching.{at_false}
 use Rattle.cacache_keep.specs.{Buckets.{FindsBuckets, Listed, ListsInTurn, StopsFinding, StopsNextPart, StopsParts, index_area_in}, Compacting.{Bucket, CompactsAll, CompactsCache, CompactsEach, StopsCompactingEach}, Losses.{CompactsSo}, Syncing.{StopsAbove, StopsInTurn, StopsNextSync, SyncsAbove, SyncsInTurn, folders_above}}
 use Rattle.cacache_keep.proofs.{Losses.{ApartSteps.{Apart, EachApart, apart_join, Fixes, fixes_failed, fixes_none, fixes_step, fixes_then}, ApartBuckets.{bucket_apart, bucket_stops}}, Indexes.FoundFolders.{HasBucketName, paths_lie}, Asked.{both_parts}}
 

@@ -2,15 +2,15 @@
 -- Steps that leave what stands at a path, and what of it is fixed.
 use Rattle.std.proofs.{Common.{◌≡◌, inl, inr, List, [], ◌∷◌, ◌++◌, Option, Some, refl, sym, ap, subst, ◌∙◌, ◌⊎◌, ℕ, Bool, true, false, cond, None, Result, Ok, Err}, ByRecursion.{All-append}}
 use Rattle.std.specs.{Prelude.{unwrap_or}, List.{AllByRecursion}}
-use Rattle.cacache_core.specs.{declared.errors.{Error.{Error, TheVariants.{IoError, OutOfMemory}}, Fault.{Fault, TheVariants.{IsADirectory}}}, PathNames.{Names, names_of}}
+use Rattle.cacache_core.specs.{declared.errors.{Error.{Error, TheVariants.{IoError, OutOfMemory}}, Fault.{Fault, TheVariants.{IsADirectory}}}, Paths.{Names, names_of}}
 use Rattle.cacache_store.specs.{declared.store.{log.LogItem.{LogItem}, plain.PlainTemp.{PlainTemp}, step.Step.TheVariants.{MakeDirs, CreateTemp, Write, Persist, ReadAll, ReadDir, SyncTemp, SyncFile, SyncDir}}, Plain.{PlainStep, PlainAnswer}}
-use Rattle.cacache_disk.specs.{declared.{luck.Luck.TheVariants.{Plain}, node.Node.{Node, TheVariants.{File}}}, Tree.{Tree, bytes_of, cut, look}, Apply.{apply}, Rooted.{Rooted}, memory.Replay.{tree_of, IsLog}, LedTo.{file_at, folder, leads}}
+use Rattle.cacache_disk.specs.{declared.{luck.Luck.TheVariants.{Plain}, node.Node.{Node, TheVariants.{File}}}, Tree.{Tree, bytes_of, cut, look, Rooted}, Apply.{apply}, Replay.{tree_of, IsLog}, LedTo.{file_at, folder, leads}}
 use Rattle.cacache_disk.proofs.Maps.{same_path-true}
 use Rattle.cacache_calls.specs.{Runs.{Gains, Moves}, SingleSteps.{Does, FailsAt}}
 use Rattle.cacache_laws.specs.Sequence.{tree_on, plain_moves, AreAnswered}
 use Rattle.cacache_laws.proofs.{Calls.InParts.{logs_lead}, trees.{Logged.{answered_split, gains_join, log_rooted}, HiddenKeys.{moves_rooted}}, results.LinkerResults.{moves_same}}
-use Rattle.cacache_loss.specs.{Moments.{Moment, after, next}, declared.fixing.Fixing.{Fixing}, CalmMoves.{is_calm}, Fixing.{Fixed, changed, file_synced, fixed_after, folder_synced, is_at, is_child_of, is_sync, is_synced, synced, temp_synced}}
-use Rattle.cacache_loss.proofs.{KeptPaths.{sync_tree}, StepCases.{PersistCase, asked_keeps, cut_misses, dirs_keep, make_keeps, moved, persist_case, put_misses, refused, step_keeps, temp_keeps}, UnchangedPaths.{Misses, at_names, file_kept, moved_false, name_kept, rewrites_false, writes_false}}
+use Rattle.cacache_loss.specs.{Moments.{Moment, after, next, is_calm}, declared.fixing.Fixing.{Fixing}, Fixing.{Fixed, changed, file_synced, fixed_after, folder_synced, is_at, is_child_of, is_sync, is_synced, synced, temp_synced}}
+use Rattle.cacache_loss.proofs.{KeptPaths.{sync_tree}, StepCases.{PersistCase, asked_keeps, cut_misses, dirs_keep, make_keeps, moved, persist_case, put_misses, refused, step_keeps, temp_keeps}, Reaching.{Misses, at_names, file_kept, moved_false, name_kept, rewrites_false, writes_false}}
 use Rattle.cacache_keep.proofs.{Stopped.{gains_none}, TreeRuns.{Leads}}
 use Rattle.cacache_store.specs.declared.store.answer.Answer.TheVariants as answers
 

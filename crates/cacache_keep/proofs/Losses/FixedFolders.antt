@@ -1,13 +1,13 @@
 -- What a loss leaves of a file whose folders are fixed, and which folders a durable compaction fixes.
 -- Syncs leave the tree, whether they are done or fail.
 use Rattle.std.proofs.Common.{◌≡◌, inl, inr, ℕ, List, [], ◌∷◌, ◌++◌, true, cond, Option, None, Some, Result, Ok, Err, refl, sym, ap, subst, ◌∙◌, append_assoc, append-nil, Bool, false}
-use Rattle.cacache_core.specs.{declared.errors.{Fault.{Fault, TheVariants.{IsADirectory}}, Error.{Error}}, PathNames.{Names, names_of}}
+use Rattle.cacache_core.specs.{declared.errors.{Fault.{Fault, TheVariants.{IsADirectory}}, Error.{Error}}, Paths.{Names, names_of}}
 use Rattle.cacache_store.specs.declared.store.{log.LogItem.{LogItem}, plain.PlainTemp.{PlainTemp}}
-use Rattle.cacache_disk.specs.{declared.{luck.Luck.TheVariants.{Plain}, node.Node.{Node, TheVariants.{File}}}, LedTo.{folder, place, where_folder, file_at}, Rooted.{Rooted, is_folder}, Tree.{Tree, look}, Apply.{apply, unless}}
+use Rattle.cacache_disk.specs.{declared.{luck.Luck.TheVariants.{Plain}, node.Node.{Node, TheVariants.{File}}}, LedTo.{folder, place, where_folder, file_at}, Tree.{Rooted, is_folder, Tree, look}, Apply.{apply, unless}}
 use Rattle.cacache_disk.proofs.{FoundNodes.{and_then_ok, place_ok}, Standing.{upper_folder}}
 use Rattle.cacache_calls.specs.{Runs.{Moves}, SingleSteps.{Does, FailsAt}}
 use Rattle.cacache_loss.specs.{declared.fixing.Place.{Place}, Fixing.{is_child_of}, Loss.{Loss, begins, lead_folders, left_at, node_left}, Moments.{Moment, lost_then}}
-use Rattle.cacache_loss.proofs.{KeptPaths.{cond_none, sync_fixes}, SyncedFolders.{IsFirm, left_firm}, UnchangedPaths.{bytes_same}}
+use Rattle.cacache_loss.proofs.{KeptPaths.{cond_none, sync_fixes}, SyncedFolders.{IsFirm, left_firm}, Reaching.{bytes_same}}
 use Rattle.cacache_laws.proofs.trees.Members.{Member}
 use Rattle.cacache_keep.specs.{Losses.{IsFixedAt, WayFixed}, Syncing.{SyncsInTurn, StopsAbove, StopsNextSync, SyncsAbove, folders_above}, Rewriting.{StopsSecuring, StopsSyncingBucket, SyncsBucket, SyncsFolder, folder_of}}
 use Rattle.cacache_keep.proofs.{Losses.{ApartSteps.{Fixes, fixes_none, fixes_step, fixes_then, later, later_split}, SettledBuckets.{StaysHeld, apart_held, held_then}}, Indexes.FoundBuckets.{Stays, stays_on}, TreeRuns.{Leads, leads_failed, leads_none, leads_step, leads_then}}

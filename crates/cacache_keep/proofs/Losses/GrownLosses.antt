@@ -2,17 +2,16 @@
 use Rattle.std.proofs.{Common.{◌≡◌, ◌≤◌, inr, ℕ, zero, suc, Bool, true, false, cond, List, [], ◌∷◌, ◌++◌, Option, None, Some, length, take, fold, refl, sym, ap, subst, ◌∙◌, arith, append_assoc, append-nil, length-append}, lemmas.List.Sums.{fold-append}}
 use Rattle.std.specs.Prelude.{bytes_eq, unwrap_or}
 use Rattle.sha1.specs.Sha1.{sha1}
-use Rattle.cacache_core.{specs.{PathLaws.{IsKeyDigest}, PathNames.{Names, names_of}, Paths.{bucket_names_of, index_area}}, proofs.PathLemmas.{keys_have_digests}}
+use Rattle.cacache_core.{specs.{Laws.{IsKeyDigest}, Paths.{Names, names_of, bucket_names_of, index_area}}, proofs.PathLemmas.{keys_have_digests}}
 use Rattle.cacache_store.specs.{declared.store.step.Step.TheVariants.{Write, Persist, SyncTemp, SyncFile, SyncDir}, Plain.{PlainStep, PlainAnswer}}
-use Rattle.cacache_disk.specs.{declared.node.Node.{Node, TheVariants.{File}}, LedTo.{leads}, Rooted.{Rooted}, Tree.{Tree, bytes_of, look}, memory.Replay.{tree_of}}
+use Rattle.cacache_disk.specs.{declared.node.Node.{Node, TheVariants.{File}}, LedTo.{leads}, Tree.{Rooted, Tree, bytes_of, look}, Replay.{tree_of}}
 use Rattle.cacache_disk.proofs.Standing.{upper_folder}
-use Rattle.cacache_entry.specs.{Bucket.{entries_of}, Entry.{Entry}, Latest.{Found, NoneAnswers, after_entry, latest}}
-use Rattle.cacache_entry.proofs.{Lines.{empty_holds_nothing}, Pieces.{entries_split}}
-use Rattle.cacache_value.specs.{Kinds.{Bucket as IsBucket, Content, Temporary, is_used, path_kind}, Placed.{Placed, Proper}, Traces.{Move}, Value.{bucket_in}}
-use Rattle.cacache_value.proofs.KindsApart.{kind-below}
-use Rattle.cacache_value.proofs.KindsApart as apart
-use Rattle.cacache_loss.specs.{declared.fixing.{Fixing.{Fixing}, Place.{Place}}, CalmMoves.{AreCalm, CalmStep, IsCalm, is_calm}, Fixing.{Fixed, changed, file_after, file_synced, fixed_after, folder_synced, is_at, is_child_of, is_synced, moved_to, moves_file, opened_if, refixed, rewrites_at, same_node, same_thing, synced, temp_synced, writes_at}, Loss.{Loss, node_left}, LossLaws.{BeginsWith, FindsOrLater}, Moments.{EachMove, Moment, after, lost_then, next}}
-use Rattle.cacache_loss.proofs.{KeptPaths.{cond_none, each_calm, fixed_next}, SyncedFolders.{left_firm}, UnchangedPaths.{at_false, moved_false, not_moved, rewrites_false}}
+use Rattle.cacache_entry.{specs.{Bucket.{entries_of, Found, NoneAnswers, after_entry, latest}, Entry.{Entry}}, proofs.{Lookups.{empty_holds_nothing}, Pieces.{entries_split}}}
+use Rattle.cacache_value.specs.{Kinds.{Bucket as IsBucket, Content, Temporary, is_used, path_kind}, Placed.{Placed, Proper}, Acts.{Move}, Value.{bucket_in}}
+use Rattle.cacache_value.proofs.PathKinds.{kind-below}
+use Rattle.cacache_value.proofs.PathKinds as apart
+use Rattle.cacache_loss.specs.{declared.fixing.{Fixing.{Fixing}, Place.{Place}}, Moments.{AreCalm, CalmStep, IsCalm, is_calm, EachMove, Moment, after, lost_then, next}, Fixing.{Fixed, changed, file_after, file_synced, fixed_after, folder_synced, is_at, is_child_of, is_synced, moved_to, moves_file, opened_if, refixed, rewrites_at, same_node, same_thing, synced, temp_synced, writes_at}, Loss.{Loss, node_left}, LossLaws.{BeginsWith, FindsOrLater}}
+use Rattle.cacache_loss.proofs.{KeptPaths.{cond_none, each_calm, fixed_next}, SyncedFolders.{left_firm}, Reaching.{at_false, moved_false, not_moved, rewrites_false}}
 use Rattle.cacache_history.proofs.durable.{GrownBuckets.{Stands, grown_after}, LineParts.{HoldsFirst, none_first}}
 use Rattle.cacache_laws.{specs.trees.Compacting.{compact_text, kept, lines_of, text_of}, proofs.trees.Compactions.CompactTexts.{compact_texts_answer}}
 use Rattle.cacache_keep.specs.Losses.{CompactionsGrow, IsFixedAt, WayFixed, moment_after}

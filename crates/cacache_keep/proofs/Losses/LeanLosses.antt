@@ -3,16 +3,16 @@
 use Rattle.std.proofs.Common.{◌≡◌, ◌⊎◌, inl, inr, ℕ, List, [], ◌∷◌, ◌++◌, true, Option, None, Some, Ok, refl, sym, ap, subst, ◌∙◌, append_assoc, Bool, false, cond}
 use Rattle.std.specs.{List.{AllByRecursion}, Prelude.{unwrap_or}}
 use Rattle.sha1.specs.Sha1.{sha1}
-use Rattle.cacache_core.{specs.{PathLaws.{IsKeyDigest}, PathNames.{Names, home_of, names_of}, Paths.{bucket_names_of, index_area}}, proofs.PathLemmas.{keys_have_digests}}
+use Rattle.cacache_core.{specs.{Laws.{IsKeyDigest}, Paths.{Names, home_of, names_of, bucket_names_of, index_area}}, proofs.PathLemmas.{keys_have_digests}}
 use Rattle.cacache_store.specs.{declared.store.{log.LogItem.{LogItem}, step.Step.TheVariants.{SyncTemp, SyncFile, SyncDir}}, Plain.{PlainStep, PlainAnswer}}
-use Rattle.cacache_disk.specs.{declared.{node.Node.{Node, TheVariants.{Folder, File, Link}}, luck.Luck.{Luck}}, Rooted.{Rooted}, Tree.{Tree, look, bytes_of}, memory.Replay.{tree_of, IsLog}, LedTo.{leads}, Apply.{apply}}
+use Rattle.cacache_disk.specs.{declared.{node.Node.{Node, TheVariants.{Folder, File, Link}}, luck.Luck.{Luck}}, Tree.{Rooted, Tree, look, bytes_of}, Replay.{tree_of, IsLog}, LedTo.{leads}, Apply.{apply}}
 use Rattle.cacache_disk.proofs.KeptFolders.{steps_keep_rooted}
-use Rattle.cacache_entry.specs.Latest.{Found, latest}
+use Rattle.cacache_entry.specs.Bucket.{Found, latest}
 use Rattle.cacache_calls.specs.Runs.{Gains, Moves}
-use Rattle.cacache_value.{specs.{Acts.{list_of}, Kinds.{Bucket as IsBucket, path_kind}, Value.{bucket_in}, Traces.{Move}}, proofs.KindsApart.{kind-below}}
+use Rattle.cacache_value.{specs.{Acts.{list_of, Move}, Kinds.{Bucket as IsBucket, path_kind}, Value.{bucket_in}}, proofs.PathKinds.{kind-below}}
 use Rattle.cacache_loss.specs.{declared.fixing.Fixing.{Fixing}, Fixing.{Fixed, synced, file_synced, fixed_after, folder_synced, is_at, is_child_of, is_synced, temp_synced}, Loss.{Loss}, LostValues.{LeftOf}, Moments.{Moment, EachMove, after, next}, Syncs.{Leaves, LeavesStep}}
-use Rattle.cacache_loss.proofs.{KeptPaths.{cond_none, cond_whole, sync_tree}, UnchangedPaths.{file_kept, name_kept}}
-use Rattle.cacache_laws.specs.trees.{Compacting.{compact_text}, Mending.{found_in}}
+use Rattle.cacache_loss.proofs.{KeptPaths.{cond_none, cond_whole, sync_tree}, Reaching.{file_kept, name_kept}}
+use Rattle.cacache_laws.specs.trees.{Compacting.{compact_text}, Verifying.{found_in}}
 use Rattle.cacache_laws.proofs.trees.{Compactions.{CompactTexts.{compact_texts_answer}, LeanTrees.{Becomes, same_bytes}}, Covering.{home_named}, Logged.{log_rooted}, Members.{Member, in_left, in_right}}
 use Rattle.cacache_keep.specs.{Buckets.{index_area_in}, Compacting.{CompactsAll, CompactsCache}, Losses.{BucketsFixed, CompactionsFix, CompactionsOutlast, IsFixedAt, KeepsLean, moment_after, CompactionsLast, LeavesWay, WayFixed}, Syncing.{folders_above}}
 use Rattle.cacache_keep.proofs.{Losses.{ApartSteps.{IsWhole, Fixes, OfTrees, fixes_leads, fixes_on, fixes_then, later, later_split, tree_then}, FixedFolders.{IsFixedFolder, SyncsNames, file_lost, in_turn_fixed}, SettledBuckets.{Held, HeldWhole, Settled, SettlesThese, each_settles}}, Indexes.{FoundBuckets.{AreBucketNames, FindsFiles, area_named, buckets_found}, FoundFolders.{FolderNamed, folders_named, bucket_names_hex}}, NewBuckets.WholeCompactions.{compactions_leave}}

@@ -1,14 +1,14 @@
 -- During a compaction a bucket has its bytes or its compacted ones, in each moment and after each loss.
 use Rattle.std.{proofs.Common.{◌≡◌, ◌⊎◌, inl, inr, ℕ, List, [], ◌∷◌, ◌++◌, Bool, true, false, cond, Option, None, Some, Ok, refl, sym, ap, subst, ◌∙◌}, specs.Prelude.{unwrap_or}}
-use Rattle.cacache_core.specs.{declared.errors.{Error.{Error}, Fault.{Fault}}, PathNames.{Names, home_of, names_of}}
+use Rattle.cacache_core.specs.{declared.errors.{Error.{Error}, Fault.{Fault}}, Paths.{Names, home_of, names_of}}
 use Rattle.cacache_store.specs.declared.store.answer.Answer.TheVariants as answers
 use Rattle.cacache_store.specs.declared.store.{log.LogItem.{LogItem}, plain.PlainTemp.{PlainTemp}}
 use Rattle.cacache_store.specs.declared.store.step.Step.TheVariants as steps
-use Rattle.cacache_disk.specs.{declared.{luck.Luck.TheVariants.{Plain}, node.Node.TheVariants.{File}}, Rooted.{Rooted}, Tree.{Tree, cut, look, put}, Apply.{apply}}
+use Rattle.cacache_disk.specs.{declared.{luck.Luck.TheVariants.{Plain}, node.Node.TheVariants.{File}}, Tree.{Rooted, Tree, cut, look, put}, Apply.{apply}}
 use Rattle.cacache_disk.proofs.{PutNodes.{look-put}, Roots.{same_self}}
 use Rattle.cacache_calls.specs.{Runs.{Moves}, SingleSteps.{Does, FailsAt}}
 use Rattle.cacache_value.specs.Kinds.{Bucket as IsBucket, path_kind}
-use Rattle.cacache_loss.{specs.{declared.fixing.Place.{Place}, Fixing.{is_at, place_now}, Moments.{Moment, next}}, proofs.UnchangedPaths.{file_kept, name_kept}}
+use Rattle.cacache_loss.{specs.{declared.fixing.Place.{Place}, Fixing.{is_at, place_now}, Moments.{Moment, next}}, proofs.Reaching.{file_kept, name_kept}}
 use Rattle.cacache_laws.{specs.trees.Compacting.{compact_text}, proofs.trees.{Compactions.CompactTwice.{compact_again}, Led.{file_shown}}}
 use Rattle.cacache_keep.specs.{Compacting.{Bucket, CompactsBucket, CompactsEach, RewritesIf, StopsBucket, StopsUnchanged, is_loose}, Losses.{CompactsSo}, Rewriting.{MakesTemp, Rewrites, StopsMoving, StopsRewriting, Took}}
 use Rattle.cacache_keep.proofs.{Losses.{ApartSteps.{EachApart, IsWhole, Kept, named_there, step_kept, whole_still, Fixes, fixes_as, fixes_failed, fixes_none, fixes_step, fixes_then, later}, ApartBuckets.{Full, IfSpared, bucket_apart, bucket_stops, early_stops, folder_sync_apart, full_apart, making_stops, sync_apart, sync_stops, temp_sync_apart, unread_stops, unsecured_stops, writing_stops}, ApartCompactions.{above_apart, above_stops, finding_apart, finding_stops}}, NewBuckets.MovedFiles.{moved, unmoved}}

@@ -1,7 +1,7 @@
 -- A durable compaction fixes the bytes and the names of its buckets.
 use Rattle.std.proofs.Common.{◌≡◌, inl, inr, ℕ, List, [], ◌∷◌, ◌++◌, Bool, true, false, cond, map, Option, None, Some, Ok, refl, sym, ap, subst, ◌∙◌}
 use Rattle.std.specs.{List.{AllByRecursion}, Prelude.{unwrap_or}}
-use Rattle.cacache_core.specs.PathNames.{Names, home_of, names_of}
+use Rattle.cacache_core.specs.Paths.{Names, home_of, names_of}
 use Rattle.cacache_store.specs.declared.store.answer.Answer.TheVariants as answers
 use Rattle.cacache_store.specs.declared.store.{log.LogItem.{LogItem}, plain.PlainTemp.{PlainTemp}}
 use Rattle.cacache_store.specs.declared.store.step.Step.TheVariants as steps

@@ -1,11 +1,11 @@
 -- What a loss leaves in the middle of a compaction.
 use Rattle.std.proofs.Common.{◌≡◌, inl, inr, ℕ, List, [], ◌∷◌, ◌++◌, Bool, None, Some, refl, sym, ap, subst, ◌∙◌, append_assoc}
-use Rattle.cacache_core.specs.{PathNames.{Names, home_of}, Paths.{bucket_names_of, index_area}}
+use Rattle.cacache_core.specs.Paths.{Names, home_of, bucket_names_of, index_area}
 use Rattle.cacache_store.specs.{declared.store.log.LogItem.{LogItem}, Plain.{PlainStep, PlainAnswer}}
-use Rattle.cacache_disk.{specs.{declared.node.Node.{Node, TheVariants.{Folder, File}}, Tree.{Tree, look}, memory.Replay.{tree_of, IsLog}}, proofs.Standing.{upper_folder}}
+use Rattle.cacache_disk.{specs.{declared.node.Node.{Node, TheVariants.{Folder, File}}, Tree.{Tree, look}, Replay.{tree_of, IsLog}}, proofs.Standing.{upper_folder}}
 use Rattle.cacache_calls.specs.Runs.{Gains, Moves}
-use Rattle.cacache_entry.specs.Latest.{latest}
-use Rattle.cacache_value.{specs.{Acts.{list_of}, Kinds.{Bucket as IsBucket, Way, path_kind}, Value.{bucket_in}}, proofs.KindsApart.{kind-below}}
+use Rattle.cacache_entry.specs.Bucket.{latest}
+use Rattle.cacache_value.{specs.{Acts.{list_of}, Kinds.{Bucket as IsBucket, Way, path_kind}, Value.{bucket_in}}, proofs.PathKinds.{kind-below}}
 use Rattle.cacache_loss.specs.{declared.fixing.Place.{Place}, Fixing.{Fixed}, Loss.{Loss, left_at, node_left}, LostValues.{LeftOf}, Moments.{Moment}}
 use Rattle.cacache_loss.proofs.SyncedFolders.{left_was}
 use Rattle.cacache_laws.proofs.trees.Logged.{log_rooted}

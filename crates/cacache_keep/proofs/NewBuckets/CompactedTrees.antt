@@ -2,15 +2,15 @@
 -- What compactions of buckets leave of a tree, also if an error ends them.
 use Rattle.std.proofs.{Common.{◌≡◌, inl, inr, ℕ, List, Bool, true, false, None, Some, Ok, refl, sym, ap, ◌∙◌, [], ◌∷◌, Option, map, subst, append-nil}, lemmas.{Bool.{Decides.{Decides-eqb}, not-false}, Slice.Eq.{slice_eq-Decides}}}
 use Rattle.std.specs.List.{AllByRecursion}
-use Rattle.cacache_core.specs.{PathNames.{Names, names_of, home_of}, declared.errors.Error.{Error}, Paths.{index_area}}
-use Rattle.cacache_disk.specs.{declared.{node.Node.TheVariants.{File, Folder}, luck.Luck.TheVariants.{Plain}}, Tree.{Tree, look, same_path}, Apply.{apply}, Rooted.{Rooted}}
+use Rattle.cacache_core.specs.{Paths.{Names, names_of, home_of, index_area}, declared.errors.Error.{Error}}
+use Rattle.cacache_disk.specs.{declared.{node.Node.TheVariants.{File, Folder}, luck.Luck.TheVariants.{Plain}}, Tree.{Tree, look, same_path, Rooted}, Apply.{apply}}
 use Rattle.cacache_disk.proofs.{Maps.{same_path-true}, Roots.{same_self}, Standing.{upper_folder}}
 use Rattle.cacache_laws.specs.trees.{Compacting.{compact_text}, Compacted.{Compacted, CutShort}}
 use Rattle.cacache_laws.proofs.{trees.{Compactions.{LeanTrees.{Becomes, same_bytes as same_file, compacted_more, compacted_none, cut_later, cut_short}, CompactTwice.{compact_again}}, Led.{file_shown}}, Readings.ReadAnswers.{reading_keeps}, Calls.InParts.{writing_keeps}}
 use Rattle.cacache_keep.specs.{Compacting.{Bucket, is_loose, same_bytes, CompactsBucket, CompactsEach, RewritesIf, StopsBucket, StopsCompactingEach}, Rewriting.{MakesTemp, Rewrites, StopsMaking, StopsRewriting, StopsWriting, Took}}
 use Rattle.cacache_keep.proofs.{Indexes.FoundBuckets.{IsBucketFile, Stays, stays_on}, NewBuckets.{MovedFiles.{MovedTo, moved, unmoved}, Rewritten.{Has, HasTemp, IsRewritten, TookSo, folder_made, left_over, rewritten, temp_failed, temp_made, writes_stay, writes_take}}, Losses.FixedFolders.{bucket_synced, bucket_unsynced, folder_synced, folder_unsynced, temp_synced, temp_unsynced}, TreeRuns.{Leads, leads_as, leads_failed, leads_none, leads_step, leads_then}, Asked.{both_parts}}
 use Rattle.cacache_store.specs.declared.store.{log.LogItem.{LogItem}, plain.PlainTemp.{PlainTemp}}
-use Rattle.cacache_calls.specs.{SingleSteps.{Does}, StepPaths.{temp_folder, temp_path}}
+use Rattle.cacache_calls.specs.{SingleSteps.{Does}, Steps.{temp_folder, temp_path}}
 use Rattle.cacache_value.specs.Kinds.{path_kind}
 use Rattle.cacache_store.specs.declared.store.answer.Answer.TheVariants as answers
 use Rattle.cacache_store.specs.declared.store.step.Step.TheVariants as steps

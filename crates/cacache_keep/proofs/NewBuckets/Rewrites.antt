@@ -3,10 +3,10 @@
 use Rattle.std.proofs.{Common.{◌≡◌, ℕ, List, [], ◌∷◌, ◌++◌, Bool, drop, Option, Result, Ok, Err, IfErr, inl, inr, refl, sym, ap, subst, ◌+◌, ◌-◌, ◌<◌, ◌^◌, true, false, cond, None, Some, ◌∙◌, map, length, length-append, take, get_or, arith}, lemmas.List.{drop_more, map-append, take-append-drop, take_more}}
 use Rattle.std.specs.{Prelude.{IfSome, min, not, option_map}, List.{filter, sum}, Option.{option_to_list}}
 use Rattle.cacache_core.specs.declared.errors.Error.{Error, TheVariants.{OutOfMemory}}
-use Rattle.cacache_store.specs.{declared.store.{log.LogItem.{LogItem}, plain.PlainTemp.{PlainTemp}}, Fits.{Fits, Logs}, Plain.{PlainStep, PlainAnswer}}
+use Rattle.cacache_store.specs.{declared.store.{log.LogItem.{LogItem}, plain.PlainTemp.{PlainTemp}}, Plain.{Fits, Logs, PlainStep, PlainAnswer}}
 use Rattle.cacache_calls.specs.{declared.answers.Refusal.{Refusal}, Answers.{bytes_in, done_in, synced_in, temp_in, written_in}, Common.{fails, refuse}, Runs.{EndsAs, Moves}, SingleSteps.{Does, FailsAt}}
 use Rattle.cacache_laws.{proofs.trees.Logged.{gains_join}, specs.trees.{Compacting.{compact_text}, Temporary.{total}}}
-use Rattle.cacache_jobs.specs.Brought.{Brings, EndsRefused}
+use Rattle.cacache_jobs.specs.LeadsOn.{Brings, EndsRefused}
 use Rattle.cacache_keep.specs.{Rewriting.{MakesTemp, Rewrites, StopsMoving, StopsRewriting, StopsSecuring, StopsWriting, SyncsFolder, Takes, Took, SyncsBucket}, Compacting.{Bucket, Changes, CompactsAll, CompactsBucket, CompactsEach, RewritesIf, Saves, Settles, StopsBucket, StopsCompactingEach, StopsSettling, is_loose, same_bytes, saved}, declared.settling.Lean.{Lean}}
 use Rattle.cacache_keep.proofs.{Collections.Sweeps.{refused_fails, Refuses, temp_refused, total_more}, Asked.{kept, passed}}
 use Rattle.cacache_core.specs.declared.errors.Fault.TheVariants as faults

@@ -1,13 +1,13 @@
 -- What the steps that write a bucket anew leave of a tree.
 use Rattle.std.proofs.{Common.{◌≡◌, inl, inr, ◌==◌, ℕ, List, [], ◌∷◌, ◌++◌, Bool, true, false, cond, drop, take, Option, None, Some, Result, Ok, Err, refl, sym, ap, subst, ◌∙◌, arith, append-nil, append_assoc, take-append-drop}, lemmas.List.Elements.{All-cons, All-nil}}
-use Rattle.cacache_core.specs.{declared.errors.Fault.{Fault}, PathNames.{Names, names_of, home_of, IsProperName}, Paths.{temp_area, temp_names}}
+use Rattle.cacache_core.specs.{declared.errors.Fault.{Fault}, Paths.{Names, names_of, home_of, IsProperName, temp_area, temp_names}}
 use Rattle.cacache_core.proofs.{JoinedNames.{joined_texts_name}, ProperNames.{names_are_proper, proper_temp_folder}}
 use Rattle.cacache_store.specs.declared.store.answer.Answer.TheVariants as answers
 use Rattle.cacache_store.specs.declared.store.plain.PlainTemp.{PlainTemp}
 use Rattle.cacache_store.specs.declared.store.step.Step.TheVariants as steps
-use Rattle.cacache_disk.specs.{declared.{luck.Luck.TheVariants.{Plain}, node.Node.{Node, TheVariants.{Folder, File}}}, Tree.{Tree, cut, look, put, same_path}, LedTo.{dirs, dirs_fault, free, or_fault, place, where_free}, Apply.{apply, grown, made_temp, make_some, making, taken, unless}, Rooted.{Rooted}}
+use Rattle.cacache_disk.specs.{declared.{luck.Luck.TheVariants.{Plain}, node.Node.{Node, TheVariants.{Folder, File}}}, Tree.{Tree, cut, look, put, same_path, Rooted}, LedTo.{dirs, dirs_fault, free, or_fault, place, where_free}, Apply.{apply, grown, made_temp, make_some, making, taken, unless}}
 use Rattle.cacache_disk.proofs.{FoundNodes.{and_then_ok, place_ok}, Maps.{same_path-true}, PutNodes.{look-cut, look-put}, Roots.{same_self}, Standing.{upper_folder}}
-use Rattle.cacache_calls.specs.{Runs.{Moves}, StepPaths.{temp_folder, temp_path}}
+use Rattle.cacache_calls.specs.{Runs.{Moves}, Steps.{temp_folder, temp_path}}
 use Rattle.cacache_laws.specs.{Sequence.{tree_on, AreAnswered}, trees.{Compacted.{Compacted}, Temporary.{is_temp_name, temp_at}}}
 use Rattle.cacache_laws.proofs.{trees.Compactions.LeanTrees.{Becomes, EndsUp, compacted_none, ends}, Calls.InParts.{writing_keeps}, Sure.SureLinks.{make_step}}
 use Rattle.cacache_keep.{specs.Rewriting.{Takes}, proofs.NewBuckets.MovedFiles.{MovedTo}}

@@ -1,8 +1,8 @@
 -- What a compaction leaves of the tree of a log, and what calls answer then.
 use Rattle.std.{proofs.Common.{◌≡◌, ◌⊎◌, inl, inr, ℕ, List, [], ◌∷◌, ◌++◌, Bool, None, Option, Some, Ok, sym, ap, subst, ◌∙◌}, specs.List.{AllByRecursion}}
-use Rattle.cacache_core.specs.{PathNames.{Names, home_of, names_of}, Paths.{index_area}, declared.errors.Error.{Error}}
+use Rattle.cacache_core.specs.{Paths.{Names, home_of, names_of, index_area}, declared.errors.Error.{Error}}
 use Rattle.cacache_store.specs.declared.store.log.LogItem.{LogItem}
-use Rattle.cacache_disk.specs.{declared.node.Node.TheVariants.{File}, Tree.{Tree, look}, memory.Replay.{IsLog, tree_of}}
+use Rattle.cacache_disk.specs.{declared.node.Node.TheVariants.{File}, Tree.{Tree, look}, Replay.{IsLog, tree_of}}
 use Rattle.cacache_laws.specs.trees.{Compacted.{Compacted, CutShort}, Compacting.{compact_text}}
 use Rattle.cacache_laws.proofs.trees.{Compactions.LeanTrees.{compactions_answer, compactions_keep, Becomes, compacted_none, cut_short, same_bytes}, Led.{houses_are_fit}, Logged.{log_rooted}, Members.{Member}}
 use Rattle.cacache_keep.specs.{Compacting.{CompactsAll, CompactsCache, StopsAfterAll, StopsCompactingEach}, Syncing.{SyncsAbove}, Kept.{CompactionsAreUnseen, CompactionsLeave, CompactionsStop, MayCompact}}

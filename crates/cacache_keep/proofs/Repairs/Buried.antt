@@ -1,17 +1,17 @@
 -- Tombstones leave the contents, and hide the keys that led to none and no other.
 use Rattle.std.proofs.{Common.{◌≡◌, ◌<◌, ◌^◌, inl, inr, ℕ, Bool, true, false, cond, List, [], ◌∷◌, ◌++◌, Option, None, Some, refl, sym, ap, subst, ◌∙◌, arith}, lemmas.{List.Elements.{All-head, All-tail}, Slice.Eq.{bytes_eq-Decides}, Bool.{not-true, not-false}}}
 use Rattle.std.specs.{Prelude.{All, IsUtf8, bytes_eq}, List.{flat_map}}
-use Rattle.cacache_core.specs.PathNames.{Names, home_of}
+use Rattle.cacache_core.specs.Paths.{Names, home_of}
 use Rattle.cacache_store.specs.declared.store.log.LogItem.{LogItem}
-use Rattle.cacache_disk.specs.{Rooted.{Rooted}, Tree.{Tree, look}}
-use Rattle.cacache_entry.specs.Latest.{Found}
+use Rattle.cacache_disk.specs.Tree.{Rooted, Tree, look}
+use Rattle.cacache_entry.specs.Bucket.{Found}
 use Rattle.cacache_calls.specs.{declared.{command.{Command.{Command}, Delete.{Delete}}, reply.Reply.{Reply}}, Inserting.{deletion, refused_cause}, Licence.{looking_on}, Runs.{Moves, Gains}, Sound.{FormedIfWritten}, State.{Site}}
 use Rattle.cacache_calls.proofs.Within.{calls_keep_to}
 use Rattle.cacache_calls.specs.declared.command.Command.TheVariants as commands
 use Rattle.cacache_calls.specs.declared.reply.Reply.TheVariants as replies
 use Rattle.cacache_value.specs.Placed.{Placed}
-use Rattle.cacache_laws.specs.{Sequence.{tree_on, AreAnswered}, trees.{Contents.{content_in}, Housed.{Housed, Still}, Mending.{KeepsContents, found_in}, Verifying.{has_content}}}
-use Rattle.cacache_laws.proofs.{Putting.Forms.{bare_written}, Readings.Looks.{moves_keep}, trees.{HiddenKeys.{tombstones_hide, moves_rooted, tombstones_house}, Led.{finds_led, found_integrity}, Logged.{answered_rest, answered_split, gains_join, looked, tree_rest, tree_split}, Members.{Member}, Spared.StillThere.{has_still}, Keeping.{tombstones_keep_contents}}}
+use Rattle.cacache_laws.specs.{Sequence.{tree_on, AreAnswered}, trees.{Contents.{content_in}, Housed.{Housed, Still}, Verifying.{KeepsContents, found_in, has_content}}}
+use Rattle.cacache_laws.proofs.{Putting.Stored.{bare_written}, Readings.Looks.{moves_keep}, trees.{HiddenKeys.{tombstones_hide, moves_rooted, tombstones_house}, Led.{finds_led, found_integrity}, Logged.{answered_rest, answered_split, gains_join, looked, tree_rest, tree_split}, Members.{Member}, Spared.StillThere.{has_still}, Keeping.{tombstones_keep_contents}}}
 use Rattle.cacache_sync.specs.Lookups.{delete_of}
 use Rattle.cacache_keep.specs.{Calls.{MadeCalls}, Repairing.{Fate, IsFateOf, Led, calls_for, is_buried, leads_nowhere, looks_of, tombstone}}
 use Rattle.cacache_keep.proofs.{Repairs.Judged.{there_told}, Stopped.{gains_none}}

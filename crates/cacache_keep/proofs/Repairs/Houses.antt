@@ -1,16 +1,16 @@
 -- A sweep and a repair leave what lies in its place there, and good contents where they were.
 use Rattle.std.{proofs.{Common.{◌≡◌, inl, inr, ℕ, List, [], ◌∷◌, ◌++◌, Option, None, Some, refl, sym, ap, subst, ◌∙◌}, lemmas.List.Elements.{All-head}}, specs.Prelude.{All}}
 use Rattle.sha1.specs.Sha1.{sha1}
-use Rattle.cacache_core.specs.{declared.integrity.digest.Hash.{Hash}, Integrity.{IsHash, IsIntegrity}, PathNames.{Names, home_of}, Paths.{bucket_names_of, temp_area}}
+use Rattle.cacache_core.specs.{declared.integrity.digest.Hash.{Hash}, Integrity.{IsHash, IsIntegrity}, Paths.{Names, home_of, bucket_names_of, temp_area}}
 use Rattle.cacache_core.proofs.PathLemmas.{keys_have_digests}
-use Rattle.cacache_disk.specs.{declared.node.Node.{Node}, Tree.{Tree, look}, memory.Replay.{tree_of}}
-use Rattle.cacache_entry.specs.{FittingEntries.{IsEntry}, Latest.{Found, latest}}
+use Rattle.cacache_disk.specs.{declared.node.Node.{Node}, Tree.{Tree, look}, Replay.{tree_of}}
+use Rattle.cacache_entry.specs.{FittingEntries.{IsEntry}, Bucket.{Found, latest}}
 use Rattle.cacache_value.specs.{Acts.{list_of}, Kinds.{Bucket, Elsewhere, Temporary, Way, path_kind}, Placed.{MayStand}, Value.{bucket_in, wide_value}}
-use Rattle.cacache_value.proofs.KindsApart.{kind-below}
+use Rattle.cacache_value.proofs.PathKinds.{kind-below}
 use Rattle.cacache_laws.specs.trees.{Contents.{content_in}, Housed.{Beside, Housed, Still}, Temporary.{IsTemporary, LeavesUntemporary}}
 use Rattle.cacache_laws.proofs.trees.{Led.{found_integrity}, Spared.StillThere.{good_still}}
 use Rattle.cacache_keep.specs.{Houses.{RepairsHouse, SweepsHouse, SweepsKeepGood}, Kept.{LeadsToGood}}
-use Rattle.cacache_keep.proofs.{Collections.Behind.{caches_are_swept}, Repairs.{AfterListing.{repaired_on}, Whole.{first_hash, rehoused}}}
+use Rattle.cacache_keep.proofs.{Collections.Behind.{caches_are_swept}, Repairs.{InTurn.{repaired_on}, Whole.{first_hash, rehoused}}}
 
 -- ---- places
 

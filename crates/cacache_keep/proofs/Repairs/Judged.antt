@@ -2,15 +2,15 @@
 use Rattle.std.proofs.Common.{◌≡◌, ◌==◌, ◌<◌, ◌-◌, ◌^◌, inl, inr, ℕ, zero, suc, List, [], ◌∷◌, ◌++◌, Bool, true, false, cond, Option, Some, Result, Ok, Err, map, length, filter, take, drop, take-append-drop, append_assoc, refl, sym, ap, ap₂, subst, ◌∙◌, arith, append-nil}
 use Rattle.std.specs.Prelude.{min, not}
 use Rattle.cacache_core.specs.declared.errors.Error.TheVariants as errors
-use Rattle.cacache_core.specs.{declared.{errors.Fault.{Fault, TheVariants.{Closed, IsADirectory, NotFound}}, integrity.digest.Hash.{Hash}}, Integrity.{IsHash}, PathNames.{Names, home_of}}
+use Rattle.cacache_core.specs.{declared.{errors.Fault.{Fault, TheVariants.{Closed, IsADirectory, NotFound}}, integrity.digest.Hash.{Hash}}, Integrity.{IsHash}, Paths.{Names, home_of}}
 use Rattle.cacache_store.specs.declared.store.answer.Answer.TheVariants as answers
 use Rattle.cacache_store.specs.{declared.store.{log.LogItem.{LogItem}, plain.PlainFile.{PlainFile}}, Plain.{PlainAnswer}}
 use Rattle.cacache_store.specs.declared.store.step.Step.TheVariants as steps
-use Rattle.cacache_disk.specs.{declared.luck.Luck.TheVariants.{Plain}, Apply.{apply, given, opened, rest_of, unless}, LedTo.{file_at}, Tree.{Tree}, Rooted.{Rooted}}
-use Rattle.cacache_entry.specs.Latest.{Found}
+use Rattle.cacache_disk.specs.{declared.luck.Luck.TheVariants.{Plain}, Apply.{apply, given, opened, rest_of, unless}, LedTo.{file_at}, Tree.{Tree, Rooted}}
+use Rattle.cacache_entry.specs.Bucket.{Found}
 use Rattle.cacache_calls.specs.declared.command.Command.TheVariants as commands
 use Rattle.cacache_calls.specs.declared.reply.Reply.TheVariants as replies
-use Rattle.cacache_calls.specs.{Answers.{there_in}, Replies.{there_reply}, Runs.{Moves, Gains}, State.{Site, Item}, StepPaths.{content_path}, Table.{piece}}
+use Rattle.cacache_calls.specs.{Answers.{there_in}, Replies.{there_reply}, Runs.{Moves, Gains}, State.{Site, Item}, Steps.{content_path}, Table.{piece}}
 use Rattle.cacache_calls.proofs.Replies.{exists_shown}
 use Rattle.cacache_laws.specs.{Sequence.{AreAnswered, tree_on}, trees.{Contents.{IsHeld, content_in}, Answers.{AnsweredBy, AnswersOn}, Index.{IndexLists, entries_in, is_failure}, Verifying.{is_good, is_met, says_yes, has_content}}}
 use Rattle.cacache_laws.proofs.{trees.{Logged.{answered_rest, answered_split, gains_join, looked, tree_rest}, Members.{Member, member_contains}, Verified.{content_file}}, Readings.ReadAnswers.{opening_keeps, piece_keeps}}

@@ -3,12 +3,12 @@
 -- Reads of an open content, one after another, and why they end.
 use Rattle.std.proofs.{Common.{◌≡◌, ◌+◌, ℕ, zero, suc, List, [], ◌∷◌, false, Option, Some, arith, refl, sym, ap, ap₂, subst, ◌∙◌, map, get_or, Bool, ◌++◌, length, filter, ◌==◌, ◌-◌, ◌^◌, inl, inr, true, Result, Ok, Err, length-append, append_assoc, append-nil}, lemmas.Bool.{eqb-true}}
 use Rattle.std.specs.{declared.cmp.Ordering.{Ordering, TheVariants.{Less}}, List.Sorted.{IsSorted, IsStrictlySortedBy}, Ordering.{is_lt, ordering_reverse}, Prelude.{not, min}}
-use Rattle.cacache_core.specs.{declared.{integrity.digest.Hash.{Hash}, errors.{Error.{Error, TheVariants.{IoError, OutOfMemory}}, Fault.TheVariants.{NotFound}}}, Integrity.{address, Meets}, PathNames.{Names, home_of}, Meeting.{meets}}
+use Rattle.cacache_core.specs.{declared.{integrity.digest.Hash.{Hash}, errors.{Error.{Error, TheVariants.{IoError, OutOfMemory}}, Fault.TheVariants.{NotFound}}}, Integrity.{address, Meets}, Paths.{Names, home_of}, Matching.{meets}}
 use Rattle.cacache_core.proofs.Meeting.{meets_finds}
-use Rattle.cacache_store.specs.{declared.store.{log.LogItem.{LogItem}, plain.PlainFile.{PlainFile}}, Fits.{Fits, Logs}, Plain.{PlainStep, PlainAnswer}}
-use Rattle.cacache_disk.specs.{Tree.{Tree}, memory.Replay.{tree_of, IsLog}}
-use Rattle.cacache_entry.specs.Latest.{Found}
-use Rattle.cacache_calls.specs.{Runs.{Gains, Moves, EndsAs}, State.{Site}, declared.answers.Refusal.{Refusal}, Answers.{file_in, got_in}, Common.{fails, refuse}, SingleSteps.{FailsAt}, StepPaths.{content_path}, Table.{piece}}
+use Rattle.cacache_store.specs.{declared.store.{log.LogItem.{LogItem}, plain.PlainFile.{PlainFile}}, Plain.{Fits, Logs, PlainStep, PlainAnswer}}
+use Rattle.cacache_disk.specs.{Tree.{Tree}, Replay.{tree_of, IsLog}}
+use Rattle.cacache_entry.specs.Bucket.{Found}
+use Rattle.cacache_calls.specs.{Runs.{Gains, Moves, EndsAs}, State.{Site}, declared.answers.Refusal.{Refusal}, Answers.{file_in, got_in}, Common.{fails, refuse}, SingleSteps.{FailsAt}, Steps.{content_path}, Table.{piece}}
 use Rattle.cacache_calls.proofs.Going.{no_gain}
 use Rattle.cacache_laws.specs.{Sequence.{tree_on, AreAnswered}, trees.{Contents.{HoldsJust}, Verifying.{Judges, has_content}}}
 use Rattle.cacache_laws.proofs.{trees.{Logged.{walked, answered_rest, answered_split, gains_join, log_rooted, tree_rest}, Members.{contains_member}, Indexed.{holds_just}}, Calls.InParts.{logs_lead}}

@@ -3,18 +3,18 @@
 use Rattle.std.proofs.{Common.{◌≡◌, inl, inr, ℕ, Bool, true, false, cond, List, [], ◌∷◌, ◌++◌, Some, map, filter, refl, sym, ap, ap₂, subst, ◌∙◌, None}, lemmas.List.Elements.{All-head}}
 use Rattle.std.specs.Prelude.{not}
 use Rattle.sha1.specs.Sha1.{sha1}
-use Rattle.cacache_core.specs.{declared.integrity.digest.Hash.{Hash}, PathNames.{Names, home_of}, Paths.{joined, content_names}, Integrity.{IsHash, IsIntegrity, address}}
+use Rattle.cacache_core.specs.{declared.integrity.digest.Hash.{Hash}, Paths.{Names, home_of, joined, content_names}, Integrity.{IsHash, IsIntegrity, address}}
 use Rattle.cacache_core.proofs.PathLemmas.{keys_have_digests}
 use Rattle.cacache_store.specs.declared.store.{log.LogItem.{LogItem}, step.Step.TheVariants.{RemoveFile, Exists}}
-use Rattle.cacache_disk.specs.{declared.luck.Luck.TheVariants.{Plain}, Tree.{Tree}, Apply.{apply}, memory.Replay.{tree_of, IsLog}, Rooted.{Rooted}}
-use Rattle.cacache_entry.specs.Latest.{Found, latest}
-use Rattle.cacache_calls.specs.{State.{Site}, StepPaths.{content_path}}
+use Rattle.cacache_disk.specs.{declared.luck.Luck.TheVariants.{Plain}, Tree.{Tree, Rooted}, Apply.{apply}, Replay.{tree_of, IsLog}}
+use Rattle.cacache_entry.specs.Bucket.{Found, latest}
+use Rattle.cacache_calls.specs.{State.{Site}, Steps.{content_path}}
 use Rattle.cacache_value.{specs.{Placed.{Placed}, Acts.{list_of}}, proofs.Traces.{steps_keep_placed}}
-use Rattle.cacache_laws.specs.{Sequence.{tree_on}, trees.{Collecting.{Removes}, Contents.{HoldsJust, content_in}, Mending.{found_in, LeavesGood}, Verifying.{has_content, is_good, Judges, says_yes}, Housed.{Housed, Still}, Index.{IndexLists}}}
+use Rattle.cacache_laws.specs.{Sequence.{tree_on}, trees.{Collecting.{Removes}, Contents.{HoldsJust, content_in}, Verifying.{found_in, LeavesGood, has_content, is_good, Judges, says_yes}, Housed.{Housed, Still}, Index.{IndexLists}}}
 use Rattle.cacache_laws.proofs.{Calls.InParts.{logs_lead}, trees.{Collected.{from_kept, kept_in, leaves, repairs_leave, dropped_hash, picked_left}, Indexed.{holds_just}, Logged.{answered_rest, answered_split, gains_join, log_rooted, tree_rest, tree_split, walked}, Members.{Member, contains_member, member_contains}, HiddenKeys.{removes_house, removes_root, removes_still}, Led.{found_integrity, found_listed, indexes_lead}, Spared.StillThere.{good_still, good_there, has_still}}}
 use Rattle.cacache_walks.specs.{Listing.{content_area_in}, Reading.{top_folder}}
 use Rattle.cacache_keep.specs.{Calls.{MadeCalls, question_of, removal}, Kept.{IsKeyOf, MendsCache, RepairsMend, LeadsToGood, RepairsKeepGood, RepairsVerify}, Reading.{Judged}, Repairing.{Fate, RepairsFrom, is_buried}}
-use Rattle.cacache_keep.proofs.{Indexes.FoundBuckets.{in_map}, Repairs.{AfterListing.{repaired_on}, Buried.{After, all_told, Whole}, Judged.{asks_told, others_named, reads_judged}, Shown.{burial_of, all_questions, verdicts_judge}}, Collections.Leaving.{removals, removals_gain, removed_by}, Stopped.{made_looks}, Asked.{none_kept}}
+use Rattle.cacache_keep.proofs.{Indexes.FoundBuckets.{in_map}, Repairs.{InTurn.{repaired_on}, Buried.{After, all_told, Whole}, Judged.{asks_told, others_named, reads_judged}, Shown.{burial_of, all_questions, verdicts_judge}}, Collections.Leaving.{removals, removals_gain, removed_by}, Stopped.{made_looks}, Asked.{none_kept}}
 
 pub map_from : {X Y : Type 0} (f : X → Y) (y : Y) (xs : List X) → Member y (map f xs) → (x : X) × Member x xs × (f x ≡ y)
 map_from f y [] m = absurd m

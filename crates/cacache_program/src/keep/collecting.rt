@@ -152,7 +152,7 @@ pub(crate) fn collect_by<S: Reasons + Stamps, C: Clock, N: Names, W: Write, E: W
 }
 
 /// Whether no option says how to collect.
-fn is_plain(order: Order<'_>) -> bool
+pub(crate) fn is_plain(order: Order<'_>) -> bool
     ensures { result ≡ is_plain_order (view_of order.entry) }
 {
     order.grace.is_none() && order.keep.is_none() && !order.durable && !order.anyway

@@ -4,6 +4,7 @@ ghost use Rattle.cacache.specs.Entries.{found_view};
 ghost use Rattle.cacache_program.specs.{WordPrune.{dropped_text as text_of_dropped, pruned_status}, KeepValues.{status_of_verdict, text_of_collected, text_of_collection, text_of_compacted, text_of_planned, text_of_prune_plan, text_of_pruned, text_of_repaired, text_of_swept, text_of_verdict}};
 
 use crate::counts::counts_text;
+use crate::errors::{Errors, tell_failed_call};
 use crate::keep::naming::{entry_lines, odd_lines};
 use cacache::{Metadata, Result};
 use cacache_core::keeping::let_go;
@@ -11,6 +12,7 @@ use cacache_keep::{
     Collected, Collection, Compacted, Planned, PrunePlan, Pruned, Repaired, Swept, Verdict,
 };
 use std::alloc::Global;
+use std::io::{ErrorKind, Write};
 
 /// What is printed for a verification.
 pub(crate) fn verdict_text(alloc: Global, verdict: &Verdict) -> Result<Vec<u8>>
@@ -129,15 +131,22 @@ pub(crate) fn prune_plan_text(alloc: Global, plan: PrunePlan) -> Result<Vec<u8>>
     Ok(text)
 }
 
-/// The status of a pruning: 0 if no entry is left, otherwise 1.
-pub(crate) fn status_of_pruned(pruned: &Pruned) -> u8
-    ensures status { result ≡ pruned_status (length pruned.now.left.items) }
+/// The status of a pruning: 0 if no entry is left and no error ended the collection, otherwise 1. The error is printed,
+/// and this may be its reason.
+pub(crate) fn status_of_pruned<E: Write>(
+    pruned: &Pruned,
+    errors: &mut Errors<E>,
+    reason: Option<ErrorKind>,
+) -> u8
+    ensures status { result ≡ pruned_status (length pruned.now.left.items) pruned.now.collected }
     ensures known { (result ≡ 0) ⊎ (result ≡ 1) }
+    ensures quiet { result ≡ 0 → errors.new ≡ errors.old }
 {
-    if pruned.left.is_empty() {
-        return 0;
+    match &pruned.collected {
+        Ok(_) if pruned.left.is_empty() => 0,
+        Ok(_) => 1,
+        Err(error) => tell_failed_call(errors, error, reason),
     }
-    1
 }
 
 /// What is printed for a pruning: after the same lines one for each entry that is left.

@@ -36,7 +36,7 @@ fn limits_of<C: Clock>(clock: &mut C, bytes: Option<u64>, seconds: Option<u64>) 
 }
 
 /// Prunes the cache with these further roots, and prints the bytes of its entries before and after, how many are dropped, a
-/// line for each, and one for each that is left.
+/// line for each, and one for each that is left, also if an error ends the collection after that.
 fn prune_with_roots<S: Reasons + Stamps, C: Clock, N: Names, W: Write, E: Write>(
     env: &mut Env<S, C, N>,
     order: Order<'_>,
@@ -52,7 +52,7 @@ fn prune_with_roots<S: Reasons + Stamps, C: Clock, N: Names, W: Write, E: Write>
     let limits = limits_of(&mut env.clock, order.size, order.age);
     match opts_of(order, roots).prune(env, order.cache, limits) {
         Ok(pruned) => {
-            let status = status_of_pruned(&pruned);
+            let status = status_of_pruned(&pruned, errors, env.store.reason());
             put_made(pruned_text(env.alloc, pruned), status, output, errors)
         }
         Err(error) => tell_failed_call(errors, &error, env.store.reason()),

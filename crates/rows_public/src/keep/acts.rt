@@ -50,10 +50,10 @@ fn ran_with<S: Stamps + Reasons, C: Clock, N: Names>(
     };
     let status = match tell(words, said(), &mut output, &mut errors) {
         Some(status) => status,
-        None => {
-            tell_missing(env, words, &mut errors);
-            run(env, words, &mut output, &mut errors)
-        }
+        None => match tell_missing(env, words, &mut errors) {
+            Some(status) => status,
+            None => run(env, words, &mut output, &mut errors),
+        },
     };
     printed(alloc, status, &output, &errors.output)
 }

@@ -1,4 +1,4 @@
-use Rattle.cacache_jobs.specs.Sites.{site_of}
+use Rattle.cacache_jobs.specs.JobStates.{site_of}
 use Rattle.cacache_keep.specs.declared.checking.OddLines.TheVariants.{Refuse}
 use Rattle.uses_keep.proofs.collected.Goals as goal
 

@@ -1,6 +1,6 @@
 use Rattle.std.proofs.Common.{◌≡◌, List, [], ◌∷◌, Some, ℕ, ap, map, refl, subst, ◌∙◌}
 use Rattle.cacache_core.specs.declared.integrity.digest.Hash.{Hash}
-use Rattle.cacache_jobs.specs.Sites.{site_of}
+use Rattle.cacache_jobs.specs.JobStates.{site_of}
 use Rattle.cacache_keep.specs.{declared.{checking.OddLines.TheVariants.{Refuse}, planning.Unused.{Unused}}, Keeping.{Collects}, Planning.{Sized, sized_of}}
 use Rattle.uses_keep.proofs.collected_as_planned.Goals as goal
 

@@ -1,6 +1,6 @@
 -- The law of a second collection, with the base folder that both had.
 use Rattle.std.proofs.Common.{Some, refl, subst}
-use Rattle.cacache_jobs.specs.Sites.{site_of}
+use Rattle.cacache_jobs.specs.JobStates.{site_of}
 use Rattle.cacache_keep.specs.{declared.checking.OddLines.TheVariants.{Refuse}, Keeping.{Collects}}
 use Rattle.uses_keep.proofs.collected_twice.Goals as goal
 

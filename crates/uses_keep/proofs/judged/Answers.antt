@@ -1,4 +1,4 @@
-use Rattle.cacache_jobs.specs.Sites.{site_of}
+use Rattle.cacache_jobs.specs.JobStates.{site_of}
 use Rattle.uses_keep.proofs.judged.Goals as goal
 
 pub returns : goal.returns

@@ -2,7 +2,7 @@ use Rattle.std.proofs.Common.{[], ◌∷◌, Some, refl}
 use Rattle.cacache_calls.specs.declared.command.Command.TheVariants as commands
 use Rattle.cacache_calls.specs.declared.reply.Reply.TheVariants as replies
 use Rattle.cacache_laws.specs.{Caches.{Called}, trees.Idle.{Removed}}
-use Rattle.cacache_jobs.specs.Sites.{site_of}
+use Rattle.cacache_jobs.specs.JobStates.{site_of}
 use Rattle.cacache_keep.specs.declared.checking.OddLines.TheVariants.{Refuse}
 use Rattle.uses_keep.proofs.read_after_removal.Goals as goal
 

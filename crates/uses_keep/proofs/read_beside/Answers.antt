@@ -1,11 +1,11 @@
 -- The law of a key after a collection, an export and a write, and that of the read.
-use Rattle.std.proofs.Common.{◌≡◌, ◌⊎◌, inl, inr, ◌<◌, ◌^◌, true, [], ◌∷◌, length, refl, sym, subst, ◌∙◌, arith}
+use Rattle.std.proofs.Common.{inl, inr, ◌<◌, ◌^◌, true, [], ◌∷◌, length, refl, sym, subst, ◌∙◌, arith}
 use Rattle.cacache_core.specs.{Integrity.{Meets}, declared.integrity.algorithm.Algorithm.TheVariants.{Sha256}}
 use Rattle.cacache_calls.specs.declared.command.Command.TheVariants as commands
 use Rattle.cacache_calls.specs.declared.command.{How.TheVariants.{Copy}, Source.TheVariants.{Key}}
 use Rattle.cacache_calls.specs.declared.reply.Reply.TheVariants as replies
-use Rattle.cacache_jobs.specs.Sites.{site_of}
-use Rattle.cacache_laws.specs.{Caches.{Called, plain_put}, ExportEffects.{copy_from}}
+use Rattle.cacache_jobs.specs.JobStates.{site_of}
+use Rattle.cacache_laws.specs.{Caches.{Called, plain_put}, ExportEffects.{export_by}}
 use Rattle.cacache_keep.specs.{declared.checking.OddLines.TheVariants.{Refuse}, Behind.{collects, exports, puts}}
 use Rattle.uses_keep.proofs.Texts.{only}
 use Rattle.uses_keep.proofs.read_beside.Goals as goal
@@ -25,7 +25,7 @@ returns g c = λ home bytes i is sound has apart differ.
     let put = plain_put Sha256 c.args.other.now c.args.data.now ran.0 in
     let small : length c.args.data.now < 2 ^ 64 = omega arith in
     let fits = laws.plain_writes Sha256 cache c.args.other.now added ran.0 c.utf8.other small ran.2.1 in
-    let copying : Called c.args.cache.now (copy_from (Key c.args.key.now) true c.args.to.now) (replies.Copied c.in_ok-copy_sync.field-0) c.collect.new.env.store c.copy_sync.new.env.store
+    let copying : Called c.args.cache.now (export_by Copy (Key c.args.key.now) true c.args.to.now) (replies.Copied c.in_ok-copy_sync.field-0) c.collect.new.env.store c.copy_sync.new.env.store
     = record { base = c.collect.new.env.base; number = 0; ran = c.in_ok-copy_sync.ensures.ran.0.0; plain = refl; logged = c.keep_laws-2.ensures.logged } in
     let writing : Called c.args.cache.now (commands.Put (plain_put Sha256 c.args.other.now c.args.data.now ran.0)) (replies.Stored c.in_ok-write_sync.field-0) c.copy_sync.new.env.store c.write_sync.new.env.store
     = record { base = c.copy_sync.new.env.base; number = ran.1; ran = ran.4.0; plain = refl; logged = c.keep_laws-3.ensures.logged } in

@@ -2,7 +2,7 @@
 use Rattle.std.proofs.{Common.{◌≤◌, ℕ, Option, None, Some, sym, refl, subst, arith}, Math.Nat.{min-le_left}}
 use Rattle.cacache_calls.specs.declared.command.Command.TheVariants as commands
 use Rattle.cacache_calls.specs.declared.reply.Reply.TheVariants as replies
-use Rattle.cacache_jobs.specs.Sites.{site_of}
+use Rattle.cacache_jobs.specs.JobStates.{site_of}
 use Rattle.cacache_laws.specs.Caches.{Called}
 use Rattle.cacache_keep.specs.Limits.{IsWithin, bytes_in}
 use Rattle.uses_keep.proofs.read_pruned.Goals as goal

@@ -1,9 +1,9 @@
 -- The law of a key after a collection and a tombstone of another one, and that of the read.
-use Rattle.std.proofs.Common.{◌≡◌, [], ◌∷◌, refl, inl, inr, ◌∙◌}
+use Rattle.std.proofs.Common.{[], ◌∷◌, refl, inl, inr, ◌∙◌}
 use Rattle.cacache_calls.specs.declared.command.Command.TheVariants as commands
 use Rattle.cacache_calls.specs.declared.reply.Reply.TheVariants as replies
 use Rattle.cacache_sync.specs.Lookups.{delete_of}
-use Rattle.cacache_jobs.specs.Sites.{site_of}
+use Rattle.cacache_jobs.specs.JobStates.{site_of}
 use Rattle.cacache_laws.specs.{Caches.{Called}, trees.Later.{SparingCall, calls}}
 use Rattle.cacache_keep.specs.declared.checking.OddLines.TheVariants.{Refuse}
 use Rattle.uses_keep.proofs.Texts.{none}

@@ -1,12 +1,12 @@
 -- The laws of a sweep, a repair, a compaction and a read, one after another, with the base folder that all had.
 use Rattle.std.proofs.Common.{◌≡◌, Some, [], ◌∷◌, ap, false, inl, map, refl, subst, sym, ◌∙◌}
 use Rattle.cacache_core.specs.declared.integrity.digest.Hash.{Hash}
-use Rattle.cacache_disk.specs.memory.Replay.{tree_of}
+use Rattle.cacache_disk.specs.Replay.{tree_of}
 use Rattle.cacache_entry.specs.View.{found_view}
 use Rattle.cacache_calls.specs.declared.command.Command.TheVariants as commands
 use Rattle.cacache_calls.specs.declared.reply.Reply.TheVariants as replies
-use Rattle.cacache_laws.specs.{Caches.{Called}, trees.{Contents.{content_in}, Mending.{found_in}}}
-use Rattle.cacache_jobs.specs.Sites.{site_of}
+use Rattle.cacache_laws.specs.{Caches.{Called}, trees.{Contents.{content_in}, Verifying.{found_in}}}
+use Rattle.cacache_jobs.specs.JobStates.{site_of}
 use Rattle.cacache_keep.specs.{declared.checking.OddLines.TheVariants.{Refuse}, Repairing.{RepairsCache}}
 use Rattle.uses_keep.proofs.read_tended.Goals as goal
 

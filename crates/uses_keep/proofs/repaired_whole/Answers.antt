@@ -1,7 +1,7 @@
 -- The law of a verification after a repair, with the base folder that both had.
 use Rattle.std.proofs.Common.{Some, refl, subst, string_bytes, map}
 use Rattle.cacache_entry.specs.View.{found_view}
-use Rattle.cacache_jobs.specs.Sites.{site_of}
+use Rattle.cacache_jobs.specs.JobStates.{site_of}
 use Rattle.cacache_keep.specs.{declared.checking.OddLines.TheVariants.{Refuse}, Keeping.{VerifiesCache}}
 use Rattle.uses_keep.proofs.repaired_whole.Goals as goal
 

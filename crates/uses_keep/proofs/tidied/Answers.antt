@@ -1,7 +1,7 @@
 -- The laws of a collection, and of one that an error ended.
 use Rattle.std.{proofs.Common.{Result, Ok, Err}, specs.Prelude.{IfErr, IfOk}}
 use Rattle.cacache_core.specs.declared.errors.Error.{Error}
-use Rattle.cacache_jobs.specs.Sites.{site_of}
+use Rattle.cacache_jobs.specs.JobStates.{site_of}
 use Rattle.cacache_keep.specs.{declared.checking.OddLines.TheVariants.{Refuse}, Behind.{KeepsKeys}}
 use Rattle.uses_keep.proofs.tidied.Goals as goal
 

@@ -1,10 +1,10 @@
 use Rattle.std.proofs.{Common.{◌++◌, ◌∷◌, [], true, false, List, refl, sym, ap, subst, ◌∙◌, map}, lemmas.List.{map-append}}
 use Rattle.cacache_core.specs.declared.errors.Error.TheVariants.{OutOfMemory}
-use Rattle.cacache_entry.specs.{Latest.{Found}, View.{found_view}}
+use Rattle.cacache_entry.specs.{Bucket.{Found}, View.{found_view}}
 use Rattle.cacache_calls.specs.declared.command.Command.TheVariants as commands
 use Rattle.cacache_calls.specs.declared.reply.Reply.TheVariants as replies
 use Rattle.cacache_calls.specs.Runs.{without_message}
-use Rattle.cacache_jobs.specs.Sites.{site_of}
+use Rattle.cacache_jobs.specs.JobStates.{site_of}
 use Rattle.cacache_keep.specs.Calls.{AsksEach, StopsQuestions}
 use Rattle.cacache_keep.proofs.{Stopped.{asks_stop, lost_here, stops_at, error_as}, Asked.{absent_asked, keeps_on, none_asked, ran_at, there_asked}}
 use Rattle.cacache_keep.proofs.asking.dangling_of.Goals as goal

@@ -1,6 +1,6 @@
 use Rattle.std.{proofs.Common.{ap, refl, sym, ◌∙◌}, specs.Prelude.{not}}
 use Rattle.cacache_calls.specs.declared.reply.Reply.TheVariants as replies
-use Rattle.cacache_jobs.specs.Sites.{site_of}
+use Rattle.cacache_jobs.specs.JobStates.{site_of}
 use Rattle.cacache_keep.{specs.Repairing.{tombstone}, proofs.{Asked.{ran_at}, Repairs.Tombs.{got_one, spared}}}
 use Rattle.cacache_keep.proofs.burying.bury.Goals as goal
 

@@ -1,6 +1,6 @@
 use Rattle.std.proofs.Common.{inl, map}
 use Rattle.cacache_entry.specs.View.{found_view}
-use Rattle.cacache_jobs.specs.Sites.{site_of}
+use Rattle.cacache_jobs.specs.JobStates.{site_of}
 use Rattle.cacache_keep.{specs.Repairing.{StopsBuryingAll}, proofs.Stopped.{error_as}}
 use Rattle.cacache_keep.proofs.burying.bury_all.Goals as goal
 

@@ -2,7 +2,7 @@ use Rattle.std.proofs.{Common.{◌≡◌, true, false, ◌+◌, inl, [], ◌∷�
 use Rattle.std.specs.Prelude.{IsUtf8}
 use Rattle.cacache_core.specs.declared.errors.Error.TheVariants.{OutOfMemory}
 use Rattle.cacache_entry.specs.View.{found_view}
-use Rattle.cacache_jobs.specs.Sites.{site_of}
+use Rattle.cacache_jobs.specs.JobStates.{site_of}
 use Rattle.cacache_keep.specs.{Calls.{MadeCalls}, Repairing.{BuriesEach, IsFateOf, StopsBurying, StopsFate, calls_for, is_buried}}
 use Rattle.cacache_keep.proofs.{Stopped.{at_base, error_as}, Repairs.{InTurn.{split_turn}, Tombs.{buried_so, lost_between, next_stops_burying, none_buried, one_buried, one_spared, spared_so}}, burying.bury_each.{Given.{Over}, Goals.{In-Some, In_ok-bury}}}
 use Rattle.cacache_keep.proofs.burying.bury_each.Goals as goal

@@ -2,7 +2,7 @@ use Rattle.std.proofs.Common.{Some, ap, option_map, refl, rules}
 use Rattle.cacache_entry.specs.View.{found_view}
 use Rattle.cacache_calls.specs.declared.command.Command.TheVariants as commands
 use Rattle.cacache_calls.specs.declared.reply.Reply.TheVariants as replies
-use Rattle.cacache_jobs.specs.Sites.{site_of}
+use Rattle.cacache_jobs.specs.JobStates.{site_of}
 use Rattle.cacache_keep.specs.Repairing.{AsksFor, StopsAsking, StopsLooking}
 use Rattle.cacache_keep.proofs.{Asked.{ran_at, value_so}, Stopped.{at_base, error_so, error_as}, Repairs.Tombs.{led_by, look_stops, question_stops}}
 use Rattle.cacache_keep.proofs.burying.leads_nowhere.Goals as goal

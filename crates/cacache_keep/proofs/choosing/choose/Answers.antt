@@ -1,21 +1,17 @@
 use Rattle.std.proofs.Common.{◌≡◌, ◌+◌, ◌-◌, inl, inr, length, map, rules, string_bytes}
 use Rattle.cacache_core.specs.declared.errors.Error.TheVariants.{OutOfMemory}
-use Rattle.cacache_jobs.specs.Sites.{site_of}
-use Rattle.cacache_keep.{specs.{Calls.{AreUnused}, Keeping.{Chooses, StopsEarly}}, proofs.Stopped.{entries_stop, lost_here, error_as}}
+use Rattle.cacache_jobs.specs.JobStates.{site_of}
+use Rattle.cacache_keep.{specs.{Calls.{AreUnused}, Keeping.{Chooses}}, proofs.Stopped.{entries_stop, lost_here, error_as}}
 use Rattle.cacache_keep.proofs.choosing.choose.Goals as goal
 
 pub returns-in_err-addresses-clause-stops : goal.returns-in_err-addresses-clause-stops
 returns-in_err-addresses-clause-stops g c =
-    error_as (λ x. StopsEarly (site_of c.args.cache.now c.args.env.now.base 0) x (g.S.Store.log c.args.env.now.store) (g.S.Store.log c.list.new.env.store)) c.from_residual.result c.in_err-addresses.field-0.0 c.from_residual.ensures.1 (inl c.in_err-addresses.ensures.stops)
+    error_as _ _ _ c.from_residual.ensures.1 (inl c.in_err-addresses.ensures.stops)
 
 pub returns-in_err-entries-clause-stops : goal.returns-in_err-entries-clause-stops
 returns-in_err-entries-clause-stops g c =
-    let base = c.args.env.now.base in
-    let site = site_of c.args.cache.now base 0 in
-    let log = g.S.Store.log in
-    let e = c.in_err-entries.field-0.0 in
-    error_as (λ x. StopsEarly site x (log c.args.env.now.store) (log c.read_index.new.store)) c.from_residual-in_err-entries.result e c.from_residual-in_err-entries.ensures.1
-    (inr (c.in_ok-addresses.field-0.addresses.items, map string_bytes c.in_ok-addresses.field-0.strange.items, log c.list.new.env.store, c.in_ok-addresses.ensures.lists, inl (c.in_err-entries.ensures.stops base)))
+    error_as _ _ _ c.from_residual-in_err-entries.ensures.1
+    (inr (c.in_ok-addresses.field-0.addresses.items, map string_bytes c.in_ok-addresses.field-0.strange.items, g.S.Store.log c.list.new.env.store, c.in_ok-addresses.ensures.lists, inl (c.in_err-entries.ensures.stops c.args.env.now.base)))
 
 pub returns-in_err-dropped-clause-stops : goal.returns-in_err-dropped-clause-stops
 returns-in_err-dropped-clause-stops g c =
@@ -24,9 +20,8 @@ returns-in_err-dropped-clause-stops g c =
     let log = g.S.Store.log in
     let found = log c.list.new.env.store in
     let new = log c.read_index.new.store in
-    let reads = c.in_ok-entries.ensures.reads base in
-    error_as (λ x. StopsEarly site x (log c.args.env.now.store) new) c.from_residual-in_err-dropped.result OutOfMemory c.from_residual-in_err-dropped.ensures.1
-    (inr (c.in_ok-addresses.field-0.addresses.items, map string_bytes c.in_ok-addresses.field-0.strange.items, found, c.in_ok-addresses.ensures.lists, entries_stop site _ OutOfMemory found new new reads.0 (lost_here site new)))
+    error_as _ _ OutOfMemory c.from_residual-in_err-dropped.ensures.1
+    (inr (c.in_ok-addresses.field-0.addresses.items, map string_bytes c.in_ok-addresses.field-0.strange.items, found, c.in_ok-addresses.ensures.lists, entries_stop site _ OutOfMemory found new new (c.in_ok-entries.ensures.reads base).0 (lost_here site new)))
 
 pub returns-clause-chooses : goal.returns-clause-chooses
 returns-clause-chooses g c =

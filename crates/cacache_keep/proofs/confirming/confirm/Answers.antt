@@ -3,7 +3,7 @@ use Rattle.cacache_entry.specs.View.{found_view}
 use Rattle.cacache_calls.specs.Runs.{without_message}
 use Rattle.cacache_calls.specs.declared.command.Command.TheVariants as commands
 use Rattle.cacache_calls.specs.declared.reply.Reply.TheVariants as replies
-use Rattle.cacache_jobs.specs.Sites.{site_of}
+use Rattle.cacache_jobs.specs.JobStates.{site_of}
 use Rattle.cacache_keep.{specs.Confirming.{StopsConfirming, is_led as is_led_of}, proofs.{Asked.{ran_at}, Confirmed.{not_confirmed, one_confirmed}, Stopped.{error_as}}}
 use Rattle.cacache_keep.proofs.confirming.confirm.Goals as goal
 

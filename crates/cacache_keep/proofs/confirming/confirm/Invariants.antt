@@ -1,6 +1,6 @@
 use Rattle.std.proofs.Common.{map, take}
 use Rattle.cacache_entry.specs.View.{found_view}
-use Rattle.cacache_jobs.specs.{Environment.{KeepsRest}, Sites.{site_of}}
+use Rattle.cacache_jobs.specs.{Environment.{KeepsRest}, JobStates.{site_of}}
 use Rattle.cacache_keep.specs.Confirming.{Confirms}
 use Rattle.cacache_keep.proofs.confirming.confirm.Given as goal
 

@@ -1,5 +1,5 @@
 use Rattle.std.proofs.Common.{ℕ, List, subst}
-use Rattle.cacache_calls.specs.StepPaths.{content_path}
+use Rattle.cacache_calls.specs.Steps.{content_path}
 use Rattle.cacache_core.specs.declared.errors.Error.TheVariants.{OutOfMemory}
 use Rattle.cacache_keep.{specs.Dropping.{Drops, StopsDropping, StopsUnlinking}, proofs.{Collections.Fates.{next_left, one_dropped, unlinked_for_memory}, Stopped.{error_as}}}
 use Rattle.cacache_keep.proofs.dropping.drop_each.Goals as goal

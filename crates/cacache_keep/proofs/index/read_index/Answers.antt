@@ -1,7 +1,7 @@
 use Rattle.std.proofs.Common.{List, ℕ, inl}
 use Rattle.cacache_calls.specs.declared.reply.Reply.TheVariants.{Refused}
 use Rattle.cacache_core.specs.declared.errors.Error.TheVariants.{OutOfMemory}
-use Rattle.cacache_jobs.specs.Sites.{site_of}
+use Rattle.cacache_jobs.specs.JobStates.{site_of}
 use Rattle.cacache_keep.{specs.Calls.{StopsIndex}, proofs.{Asked.{plain_are}, Stopped.{error_as, items_stop}}}
 use Rattle.cacache_keep.proofs.index.read_index.Goals as goal
 

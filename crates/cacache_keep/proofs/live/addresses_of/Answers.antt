@@ -1,6 +1,6 @@
 use Rattle.std.proofs.Common.{◌≡◌, ◌++◌, ◌∷◌, [], Some, rules}
 use Rattle.cacache_core.specs.Integrity.{IsIntegrity, address}
-use Rattle.cacache_entry.specs.Latest.{Found}
+use Rattle.cacache_entry.specs.Bucket.{Found}
 use Rattle.cacache_keep.proofs.Collections.Searching.{formed_more, live_more}
 use Rattle.cacache_keep.proofs.live.addresses_of.Goals as goal
 

@@ -1,14 +1,12 @@
 use Rattle.std.proofs.Common.{inr, List, map, refl, string_bytes, subst, ap, ◌∙◌}
 use Rattle.cacache_core.specs.{declared.{errors.Error.TheVariants.{OutOfMemory}, integrity.digest.Hash.{Hash}}, Integrity.{address}}
 use Rattle.cacache_walks.specs.Listing.{ListsContents}
-use Rattle.cacache_keep.{specs.Missing.{StopsShowing}, proofs.{Repairs.Shown.{single_hashes, sorted_hashes}, Stopped.{error_as}}}
+use Rattle.cacache_keep.proofs.{Repairs.Shown.{single_hashes, sorted_hashes}, Stopped.{error_as}}
 use Rattle.cacache_keep.proofs.missing.look.Goals as goal
 
 pub returns-in_err-contents-clause-stops : goal.returns-in_err-contents-clause-stops
 returns-in_err-contents-clause-stops g c =
-    let old = g.S.Store.log c.args.env.now.store in
-    let new = g.S.Store.log c.list.new.env.store in
-    error_as (λ x. StopsShowing c.args.cache.now x old new) c.from_residual-in_err-contents.result OutOfMemory c.from_residual-in_err-contents.ensures.1
+    error_as _ _ OutOfMemory c.from_residual-in_err-contents.ensures.1
     (inr (refl, c.in_ok-addresses.field-0.addresses.items, map string_bytes c.in_ok-addresses.field-0.strange.items, c.in_ok-addresses.ensures.lists))
 
 pub returns-clause-shows : goal.returns-clause-shows

@@ -2,7 +2,7 @@ use Rattle.std.{proofs.Common.{◌≡◌, ◌∙◌, ℕ, List, ap, refl, rules,
 use Rattle.cacache_entry.specs.View.{found_view}
 use Rattle.cacache_calls.specs.{Runs.{Ran, without_message}, Table.{opening}}
 use Rattle.cacache_calls.specs.declared.reply.Reply.TheVariants as replies
-use Rattle.cacache_jobs.specs.Sites.{site_of}
+use Rattle.cacache_jobs.specs.JobStates.{site_of}
 use Rattle.cacache_keep.{specs.{Parting.{may_be_full}, Repairing.{tombstone}}, proofs.{Asked.{ran_at}, Partings.{maybe_full, not_full}}}
 use Rattle.cacache_keep.proofs.parting.drop_key.Goals as goal
 

@@ -1,7 +1,7 @@
 use Rattle.std.proofs.{Common.{◌≡◌, ◌∙◌, ◌+◌, true, false, Bool, Ok, Err, [], ◌∷◌, ◌++◌, ap, drop, length, map, rules, subst, sym, append_assoc}, lemmas.{List.{map-append}, Iterator.Adapters.{YieldsList-from_vec}}}
 use Rattle.cacache_core.specs.declared.errors.Error.TheVariants.{OutOfMemory}
 use Rattle.cacache_entry.specs.View.{found_view}
-use Rattle.cacache_jobs.specs.Sites.{site_of}
+use Rattle.cacache_jobs.specs.JobStates.{site_of}
 use Rattle.cacache_keep.specs.Parting.{DropsKey, Parts, StopsParting}
 use Rattle.cacache_keep.proofs.{Partings.{one_gone, one_left, stops_after, stops_there}, Repairs.InTurn.{split_turn}, Stopped.{at_base, error_as}, parting.part.{Given.{Over}, Goals.{In-Some, In_ok-drop_key}}}
 use Rattle.cacache_keep.proofs.parting.part.Goals as goal

@@ -2,7 +2,7 @@ use Rattle.std.proofs.Common.{◌≡◌, ◌∙◌, inl, ap, refl, rules, string
 use Rattle.cacache_core.specs.declared.errors.Error.TheVariants.{OutOfMemory}
 use Rattle.cacache_store.specs.declared.store.step.Step.TheVariants as steps
 use Rattle.cacache_entry.specs.View.{found_view}
-use Rattle.cacache_calls.specs.{SingleSteps.{FailsAt}, StepPaths.{bucket_path}}
+use Rattle.cacache_calls.specs.{SingleSteps.{FailsAt}, Steps.{bucket_path}}
 use Rattle.cacache_keep.{specs.Parting.{StopsUnlinkingKey}, proofs.Stopped.{error_as}}
 use Rattle.cacache_keep.proofs.parting.unlink.Goals as goal
 

@@ -1,6 +1,6 @@
 use Rattle.std.proofs.Common.{List, inl, subst, sym, ◌∙◌}
 use Rattle.cacache_core.specs.declared.integrity.digest.Hash.{Hash}
-use Rattle.cacache_jobs.specs.Sites.{site_of}
+use Rattle.cacache_jobs.specs.JobStates.{site_of}
 use Rattle.cacache_keep.{specs.{Keeping.{ChoosesAs}, Planning.{StopsPlanning}}, proofs.{Collections.Sizes.{addresses_told}, Stopped.{error_as}}}
 use Rattle.cacache_keep.proofs.planning.plan_open.Goals as goal
 

@@ -1,6 +1,6 @@
 use Rattle.std.{proofs.Common.{List, ap, inl, inr, map, subst, ◌∙◌}, specs.List.Sorted.{IsPermutation, IsSorted}}
 use Rattle.cacache_core.specs.declared.errors.Error.TheVariants.{OutOfMemory}
-use Rattle.cacache_jobs.specs.Sites.{site_of}
+use Rattle.cacache_jobs.specs.JobStates.{site_of}
 use Rattle.cacache_keep.specs.{Limits.{Weight, age_cmp, entries_in, told_bytes, weight_of}, Pruning.{StopsPrunePlan}, Weighing.{Weighs}}
 use Rattle.cacache_keep.proofs.{Stopped.{error_as}, Weights.{lost_last}}
 use Rattle.cacache_keep.proofs.pruning.plan_prune_open.Goals as goal

@@ -1,6 +1,6 @@
 use Rattle.std.{proofs.Common.{List, map, subst, sym}, specs.List.Sorted.{IsPermutation, IsSorted}}
 use Rattle.cacache_core.specs.declared.errors.Error.TheVariants.{OutOfMemory}
-use Rattle.cacache_entry.specs.{Latest.{Found}, View.{found_view}}
+use Rattle.cacache_entry.specs.{Bucket.{Found}, View.{found_view}}
 use Rattle.cacache_keep.{specs.{Limits.{age_cmp}, Weighing.{StopsWeighing}}, proofs.{Asked.{value_so}, Stopped.{error_as, error_so}, Weights.{lost_first}}}
 use Rattle.cacache_keep.proofs.pruning.weigh_all.Goals as goal
 

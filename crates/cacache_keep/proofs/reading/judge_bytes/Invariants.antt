@@ -1,5 +1,5 @@
 use Rattle.std.{proofs.Common.{◌≡◌, ◌-◌, ◌^◌, ℕ, List, length}, specs.Prelude.{min}}
-use Rattle.cacache_core.specs.Pieces.{Compares}
+use Rattle.cacache_core.specs.Hashers.{Compares}
 use Rattle.cacache_keep.specs.Reading.{Gave}
 use Rattle.cacache_keep.proofs.reading.judge_bytes.Given as goal
 

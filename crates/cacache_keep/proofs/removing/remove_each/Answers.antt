@@ -1,7 +1,7 @@
 use Rattle.std.proofs.Common.{refl}
 use Rattle.cacache_calls.specs.declared.command.Command.TheVariants as commands
 use Rattle.cacache_calls.specs.declared.reply.Reply.TheVariants as replies
-use Rattle.cacache_jobs.specs.Sites.{site_of}
+use Rattle.cacache_jobs.specs.JobStates.{site_of}
 use Rattle.cacache_calls.specs.Runs.{without_message}
 use Rattle.cacache_keep.{specs.Calls.{StopsRemoving}, proofs.{Asked.{keeps_on, ran_at}, Collections.Searching.{one_refused, one_removed}, Stopped.{error_as}}}
 use Rattle.cacache_keep.proofs.removing.remove_each.Goals as goal

@@ -1,5 +1,5 @@
 use Rattle.std.proofs.Common.{map, take}
-use Rattle.cacache_jobs.specs.{Environment.{KeepsRest}, Sites.{site_of}}
+use Rattle.cacache_jobs.specs.{Environment.{KeepsRest}, JobStates.{site_of}}
 use Rattle.cacache_keep.specs.Calls.{MadeCalls, removal}
 use Rattle.cacache_keep.proofs.removing.remove_each.Given as goal
 

@@ -1,6 +1,6 @@
 use Rattle.std.proofs.Common.{inl, inr, map, rules, string_bytes, ◌∙◌}
 use Rattle.cacache_entry.specs.View.{found_view}
-use Rattle.cacache_jobs.specs.Sites.{site_of}
+use Rattle.cacache_jobs.specs.JobStates.{site_of}
 use Rattle.cacache_keep.specs.{Calls.{AsksEach, MadeCalls, StopsQuestions, StopsRemoving, removal}, Repairing.{StopsBuryingAll, StopsRepairingFrom}}
 use Rattle.cacache_keep.proofs.Stopped.{at_base, drops, error_as}
 use Rattle.cacache_keep.proofs.repairing.repair_from.Goals as goal

@@ -1,5 +1,5 @@
 use Rattle.std.proofs.Common.{inl, inr, refl, subst}
-use Rattle.cacache_jobs.specs.Sites.{site_of}
+use Rattle.cacache_jobs.specs.JobStates.{site_of}
 use Rattle.cacache_keep.{specs.{Checking.{Allows, RefusesOdd}, Repairing.{StopsRepairing}}, proofs.{Stopped.{error_so, error_as}, Asked.{value_so}}}
 use Rattle.cacache_keep.proofs.repairing.repair_open.Goals as goal
 

@@ -7,8 +7,8 @@ pub returns : goal.returns
 returns c =
     value_so c.others.result (λ rest are. (
       c.sort.new.live.items,
-      c.in_ok-addresses.addresses.items,
-      c.in_ok-addresses.ensures,
+      c.in_ok-hashes.hashes.items,
+      c.in_ok-hashes.ensures,
       c.sort.ensures.same,
       subst (λ (l : List Hash). AreOthers l c.args.unused.items rest.items) c.as_slice.ensures.value are,
     )) c.others.ensures

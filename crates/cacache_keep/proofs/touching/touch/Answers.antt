@@ -4,8 +4,8 @@ use Rattle.cacache_entry.specs.View.{found_view}
 use Rattle.cacache_calls.specs.declared.command.Command.TheVariants as commands
 use Rattle.cacache_calls.specs.declared.reply.Reply.TheVariants as replies
 use Rattle.cacache_calls.specs.{Inserting.{given_or, no_integrity}, Runs.{without_message}}
-use Rattle.cacache_jobs.specs.{Environment.{AsksMoment, HasMoment}, Sites.{site_of}}
-use Rattle.cacache_sync.specs.put.{Options.{Said}, Puts.{insert_of}}
+use Rattle.cacache_jobs.specs.{Environment.{AsksMoment, HasMoment}, JobStates.{site_of}}
+use Rattle.cacache_sync.specs.put.KeyedWriters.{Said, insert_of}
 use Rattle.cacache_keep.{specs.Touching.{StopsTouching, renewed}, proofs.{Asked.{ran_at}, Stopped.{error_as}}}
 use Rattle.cacache_keep.proofs.touching.touch.Goals as goal
 

@@ -1,5 +1,5 @@
 -- Its file was to be removed.
-use Rattle.cacache_sync.proofs.content.GivenUp.{given_up_tries}
+use Rattle.cacache_sync.proofs.content.Writes.{given_up_tries}
 use Rattle.cacache_program.proofs.storing.give_up.Goals as goal
 
 pub returns-clause-tries : goal.returns-clause-tries

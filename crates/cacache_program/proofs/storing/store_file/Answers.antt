@@ -1,6 +1,6 @@
 -- The file was stored, or given up.
 use Rattle.std.proofs.Common.{List, ℕ, subst}
-use Rattle.cacache.specs.Readers.{OpensFile}
+use Rattle.cacache.specs.OpenHandles.{OpensFile}
 use Rattle.cacache_program.{specs.WordWrite.{AreAllOf}, proofs.TakenFiles.{filled_ends, given_up_ends, unfilled, unmade}}
 use Rattle.cacache_program.proofs.storing.store_file.Goals as goal
 

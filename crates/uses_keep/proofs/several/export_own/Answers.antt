@@ -1,10 +1,10 @@
 -- The law of an export in a mode.
 use Rattle.std.proofs.{Common.{◌≡◌, ℕ, List, Some, refl}, lemmas.Result.{MatchResult-weaker}}
 use Rattle.cacache_store.specs.declared.store.log.LogItem.{LogItem}
-use Rattle.cacache_disk.specs.memory.Replay.{shown, tree_of}
+use Rattle.cacache_disk.specs.Replay.{shown, tree_of}
 use Rattle.cacache_calls.specs.declared.command.Source.TheVariants.{Key}
-use Rattle.cacache_sync.specs.{declared.ways.{Exported.{Exported, TheVariants.{Copied, HardLinked}}, ExportMode.TheVariants.{Own}}, Ways.{export_reply}}
-use Rattle.cacache_laws.specs.Exported.{Arrives}
+use Rattle.cacache_sync.specs.{declared.ways.{Exported.{Exported, TheVariants.{Copied, HardLinked}}, ExportMode.TheVariants.{Own}}, Exports.{export_reply}}
+use Rattle.cacache_laws.specs.ExportEffects.{Arrives}
 use Rattle.uses_keep.proofs.several.export_own.Goals as goal
 
 there : (bytes to : List ℕ) (e : Exported) (old new : List LogItem) → Arrives bytes to (export_reply e) old new → shown (tree_of new) to ≡ Some bytes

@@ -1,7 +1,7 @@
 -- The law of a read that fetches, and that of the read after it.
 use Rattle.std.{proofs.{Common.{◌≡◌, ℕ, List, Some, Ok, sym, ap, ◌∙◌}, lemmas.Result.{IfOk-at_ok}}, specs.Result.{result_from_control_flow}}
 use Rattle.cacache_store.specs.declared.store.log.LogItem.{LogItem}
-use Rattle.cacache_entry.specs.Latest.{Found}
+use Rattle.cacache_entry.specs.Bucket.{Found}
 use Rattle.cacache_laws.specs.{Looks.{bytes_under}, results.Reads.{KeyLiesWhole}}
 use Rattle.uses_keep.proofs.several.fetch_then_read.Goals as goal
 

@@ -3,7 +3,7 @@ use Rattle.std.{proofs.Common.{◌≡◌, Option, None, Some, refl, ◌∙◌}, 
 use Rattle.cacache_entry.specs.{View.{found_view}, declared.metadata.Metadata.{Metadata}}
 use Rattle.cacache_calls.specs.declared.command.Command.TheVariants as commands
 use Rattle.cacache_calls.specs.declared.reply.Reply.TheVariants as replies
-use Rattle.cacache_jobs.specs.Sites.{site_of}
+use Rattle.cacache_jobs.specs.JobStates.{site_of}
 use Rattle.cacache_laws.specs.Caches.{Called}
 use Rattle.uses_keep.proofs.several.find_pruned.Goals as goal
 

@@ -1,8 +1,8 @@
 -- The law of a read of layers.
 use Rattle.std.{proofs.{Common.{◌≡◌, inl, inr, ℕ, List, None, Some, Vec, Global, Result, sym, ap, ◌∙◌}, lemmas.Result.{MatchResult-weaker}}, specs.Prelude.{IfOk}}
-use Rattle.cacache_core.specs.{declared.{errors.Error.{Error}, integrity.digest.Hash.{Hash}}, PathNames.{home_of}}
+use Rattle.cacache_core.specs.{declared.{errors.Error.{Error}, integrity.digest.Hash.{Hash}}, Paths.{home_of}}
 use Rattle.cacache_store.specs.declared.store.log.LogItem.{LogItem}
-use Rattle.cacache_disk.specs.memory.Replay.{tree_of}
+use Rattle.cacache_disk.specs.Replay.{tree_of}
 use Rattle.cacache_value.specs.Value.{value_of_tree}
 use Rattle.cacache_sync.specs.{declared.layers.Layered.{Layered}, Layers.{lacks_entry}}
 use Rattle.cacache_laws.specs.{Caches.{HasKey, LacksKey}, Looks.{SameStaysKnown}, results.{Composed.{GivesLayered}, Reads.{GivesJust, KeyRead}}}

@@ -1,4 +1,4 @@
-use Rattle.cacache_keep.proofs.collecting.collect_with.Goals as goal
+use Rattle.cacache_keep.proofs.collecting.collect.Goals as goal
 
 pub returns-clause-collects : goal.returns-clause-collects
 returns-clause-collects g c = rw c.end_walks.ensures.logged c.collect_open-answer.ensures.collects

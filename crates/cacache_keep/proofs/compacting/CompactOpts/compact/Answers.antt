@@ -1,4 +1,4 @@
-use Rattle.cacache_keep.proofs.compacting.compact_all.Goals as goal
+use Rattle.cacache_keep.proofs.compacting.CompactOpts.compact.Goals as goal
 
 pub returns-clause-compacts : goal.returns-clause-compacts
 returns-clause-compacts g c = rw c.end_walks.ensures.logged c.compact_open-answer.ensures.compacts

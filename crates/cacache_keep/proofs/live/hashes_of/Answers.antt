@@ -1,7 +1,7 @@
 use Rattle.std.proofs.Common.{◌≡◌, ◌++◌, ◌∷◌, [], Some, rules}
 use Rattle.cacache_core.specs.Integrity.{address}
 use Rattle.cacache_keep.proofs.Collections.Searching.{live_more}
-use Rattle.cacache_keep.proofs.missing.hashes_of.Goals as goal
+use Rattle.cacache_keep.proofs.live.hashes_of.Goals as goal
 
 pub loop-sri-preserved : goal.loop-sri-preserved
 loop-sri-preserved c =
