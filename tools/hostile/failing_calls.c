@@ -3,8 +3,10 @@
    It counts the program's calls. The one with the number EACH_AT goes wrong as EACH_HOW says: `errno N` (the call isn't made and says N),
    `stays N` (and so does each later one of its name on the same path), `lasts N` (and so does each later one of its name, but not on a
    stream), `short` (a read or a write takes half of its bytes), `before`, `half` and `after` (the process is killed before the call, once
-   a half was read or written, or after the call). EACH_TELL is a file that gets a line for that call, and for each call if EACH_AT is 0:
-   its name, and the path or what lies open under its number. */
+   a half was read or written, or after the call), `first` (EACH_FIRST, a command of the shell, is run before it), or `swap` (the paths
+   EACH_FOLDER and EACH_LINK are exchanged before it). EACH_TELL is a file that gets a line for that call, and for each call if EACH_AT is
+   0: its name, and the path or what lies open under its number. With `swap` the line says whether the folder was opened before. What
+   changed before EACH_OLD, in nanoseconds, is a day older as a statx says it. */
 #define _GNU_SOURCE
 #include <dirent.h>
 #include <dlfcn.h>
@@ -19,8 +21,10 @@
 #include <sys/syscall.h>
 #include <unistd.h>
 
-enum { WELL, ERRNO, STAYS, LASTS, SHORT, BEFORE, HALF, AFTER };
-static long made, at = -1, said;
+enum { WELL, ERRNO, STAYS, LASTS, SHORT, BEFORE, HALF, AFTER, FIRST, SWAP };
+static long made, at = -1, said, old;
+static struct stat folder; /* that is exchanged */
+static const char *seen = "unopened\n";
 static int how, telling = -1;
 static char staying[4200]; /* the name and the path of the call whose error stays */
 
@@ -28,26 +32,37 @@ static void begin(void) {
     const char *text = getenv("EACH_AT"), *kind = getenv("EACH_HOW"), *tell = getenv("EACH_TELL");
     at = text ? atol(text) : 0;
     kind = kind ? kind : "";
-    how = !strncmp(kind, "errno ", 6) ? ERRNO : !strncmp(kind, "stays ", 6) ? STAYS : !strncmp(kind, "lasts ", 6) ? LASTS : !strcmp(kind, "short") ? SHORT
-        : !strcmp(kind, "before") ? BEFORE : !strcmp(kind, "half") ? HALF : !strcmp(kind, "after") ? AFTER : WELL;
+    static const char *kinds[] = {"", "errno ", "stays ", "lasts ", "short", "before", "half", "after", "first", "swap"};
+    for (how = SWAP; how > WELL && strncmp(kind, kinds[how], strlen(kinds[how])); how--) {}
     said = how == ERRNO || how == STAYS || how == LASTS ? atol(kind + 6) : 0;
+    old = getenv("EACH_OLD") ? atol(getenv("EACH_OLD")) : 0;
+    if (how == SWAP) syscall(SYS_newfstatat, AT_FDCWD, getenv("EACH_FOLDER"), &folder, AT_SYMLINK_NOFOLLOW);
     if (tell) telling = syscall(SYS_openat, AT_FDCWD, tell, O_WRONLY | O_CREAT | O_APPEND | O_CLOEXEC, 0600);
 }
 
-/* A call's name, and the path that it is given or what lies open under its number. */
+/* A call's name, and the path that it is given, below an open folder too, or what lies open under its number. */
 static int show(char *line, size_t size, const char *name, const char *path, int fd) {
     char place[64], open_path[4096] = "";
-    if (!path || !*path) {
-        snprintf(place, sizeof place, "/proc/self/fd/%d", fd);
+    const char *below = path && !strncmp(path, "/proc/self/fd/", 14) ? strchr(path + 14, '/') : NULL;
+    const char *rest = below ? below : path ? path : "";
+    if (below || !*rest) {
+        snprintf(place, sizeof place, "/proc/self/fd/%d", below ? atoi(path + 14) : fd);
         long got = syscall(SYS_readlinkat, AT_FDCWD, place, open_path, sizeof open_path - 1);
         if (got > 0) open_path[got] = 0;
-        path = fd < 3 ? "stream" : open_path;
+        if (!below && fd < 3) strcpy(open_path, "stream");
     }
-    return snprintf(line, size, "%s %s\n", name, path);
+    return snprintf(line, size, "%s %s%s\n", name, open_path, rest);
 }
 
 static int stays(void) { return how == STAYS || how == LASTS; }
 static void end(void) { syscall(SYS_kill, syscall(SYS_getpid), SIGKILL); }
+
+/* Runs a command in which nothing goes wrong, or exchanges two paths. */
+static int meanwhile(void) {
+    if (how == FIRST) return setenv("EACH_AT", "1000000000", 1), system(getenv("EACH_FIRST")), WELL;
+    if (telling >= 0) syscall(SYS_write, telling, seen, strlen(seen));
+    return syscall(SYS_renameat2, AT_FDCWD, getenv("EACH_FOLDER"), AT_FDCWD, getenv("EACH_LINK"), 2 /* RENAME_EXCHANGE */), WELL;
+}
 
 /* What is to go wrong with this call. */
 static int due(const char *name, const char *path, int fd) {
@@ -60,9 +75,10 @@ static int due(const char *name, const char *path, int fd) {
     if (number > at && how == LASTS && fd >= 0 && fd < 3) return WELL;
     if (number > at && at != 0 && strncmp(line, staying, how == LASTS ? strlen(name) + 1 : sizeof line)) return WELL;
     strcpy(staying, line);
-    if (telling >= 0 && (at == 0 || number == at)) syscall(SYS_write, telling, line, length);
+    if (telling >= 0 && how != SWAP && (at == 0 || number == at)) syscall(SYS_write, telling, line, length);
     if (at == 0) return WELL;
     if (how == BEFORE) end();
+    if (how == FIRST || how == SWAP) return meanwhile();
     if (how == ERRNO || stays()) errno = said;
     return stays() ? ERRNO : how;
 }
@@ -105,7 +121,18 @@ WHOLE(int, ftruncate, (int fd, off_t size), (fd, size), NULL, fd)
 int statx(int fd, const char *path, int flags, unsigned mask, struct statx *to) {
     int wrong = due(*path ? "statx" : "fstat", path, fd);
     if (wrong == ERRNO) return -1;
-    MADE(int, REAL(statx)(fd, path, flags, mask, to));
+    int found = REAL(statx)(fd, path, flags, mask, to);
+    int is_old = !found && to->stx_ctime.tv_sec * 1000000000 + to->stx_ctime.tv_nsec < old;
+    if (is_old) to->stx_ctime.tv_sec -= 86400, to->stx_mtime.tv_sec -= 86400;
+    MADE(int, found);
+}
+
+/* Notes whether the folder that is exchanged is open now, up to the exchange. */
+static int opened(int fd) {
+    struct stat it;
+    int is_open = how == SWAP && made < at && fd >= 0 && !syscall(SYS_newfstatat, fd, "", &it, AT_EMPTY_PATH);
+    if (is_open && it.st_ino == folder.st_ino && it.st_dev == folder.st_dev) seen = "opened\n";
+    return fd;
 }
 
 int open(const char *path, int flags, ...) {
@@ -115,7 +142,7 @@ int open(const char *path, int flags, ...) {
     va_end(more);
     int wrong = due("open", path, -1);
     if (wrong == ERRNO) return -1;
-    MADE(int, REAL(open)(path, flags, mode));
+    MADE(int, opened(REAL(open)(path, flags, mode)));
 }
 
 int openat(int fd, const char *path, int flags, ...) {
@@ -125,7 +152,7 @@ int openat(int fd, const char *path, int flags, ...) {
     va_end(more);
     int wrong = due("openat", path, fd);
     if (wrong == ERRNO) return -1;
-    MADE(int, REAL(openat)(fd, path, flags, mode));
+    MADE(int, opened(REAL(openat)(fd, path, flags, mode)));
 }
 
 /* Of a close that fails the file is closed all the same. */

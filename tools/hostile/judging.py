@@ -1,11 +1,13 @@
 """What is wrong with a run of `tools/hostile/each` in which a call went wrong: each finding is a text, and its details."""
+import pathlib
 import re
 
 from standing import Cache, bucket_path, content_path, line
 from tried import FOREIGN, GONE, LIVE, ODD
 
 KILLS = ("before", "half", "after")
-MESSAGE = re.compile(r"Failed to |Error |Bucket |Entry not found for key |Integrity check failed\.\n|out of memory\n|output failed\n|input failed\n")
+MESSAGE = re.compile(r"Failed to |Error |Bucket |Key |Entry not found for key |Integrity check failed\.\n"
+                     r"|(?:out of memory|(?:out|in)put failed)\n")
 
 
 def at_or_below(path, above):
@@ -15,7 +17,7 @@ def at_or_below(path, above):
 
 def taken_for_gone(ran, how):
     """The path of which a run was told falsely that nothing is there."""
-    return ran.call.removeprefix("statx ") if how == "errno ENOENT" and ran.call.startswith("statx ") else None
+    return ran.call.removeprefix("statx ").rstrip("/") if how == "errno ENOENT" and ran.call.startswith("statx ") else None
 
 
 def excused(gone):
@@ -36,9 +38,9 @@ def values(word, before, ran, done, gone):
             may = {"absent"} if done else {was.value(key), "absent", "missing"}
         if key in excused(gone):
             may |= {"absent", "missing"}
-        if word.words[0] == "repair" and key == "hurt" or word.words[0] == "prune" and key in word.made:
+        if word.words[0] == "repair" and key == "hurt" or "prune" in word.does and key in word.made:
             may |= set() if done else {"missing"}
-        if word.words[0] == "write" and ran.call.startswith("rename "):
+        if word.words[0] in ("write", "store") and ran.call.startswith("rename "):
             may.add(was.value(key))  # a commit goes on where its file can't be moved and something stands there, as in the Rust crate
         if now.value(key) not in may:
             yield f"a key has {now.value(key) if isinstance(now.value(key), str) else 'other bytes than it may'}", key
@@ -49,45 +51,52 @@ def files(word, before, ran, how, gone):
     kind, tree = word.words[0], ran.tree
     killed = how in KILLS
     if word.looks:
-        yield from [("a word that only looks changed something", "")] if tree != before else []
+        # without the index one that was refused for odd lines does its work
+        yield from [("a word that only looks changed something", "")] if tree != before and not (gone and word.status == 1) else []
         return
-    own = {f"c/{content_path(word.data)}", *(f"c/{bucket_path(it)}" for it in word.made)} if kind == "write" else set()
+    taken = [content_path(it) for it in excused(gone).values()] if "collect" in word.does else []
+    emptied = {f"c/{it}" for path in [*word.removes, *taken] for it in list(pathlib.PurePath(path).parents)[:2]} if word.empties else ()
     for path in sorted(before):
         what, now = before[path], tree.get(path)
-        if what == now or path in own or kind == "clear" and path.startswith("c/") and now is None:
+        if what == now or path in word.own or kind == "clear" and now is None and at_or_below(path, "c"):
             continue
-        if path == "c" and kind == "clear":
-            continue
-        if kind == "prune" and now is None and path in [f"c/{bucket_path(it)}" for it in word.made]:
+        if "prune" in word.does and now is None and path in [f"c/{bucket_path(it)}" for it in word.made]:
             continue  # without room for a tombstone
-        if what == "folder" and not word.odd and not any(it.startswith(f"{path}/") for it in tree):
-            continue  # empty after removals
-        taken = [content_path(it) for it in excused(gone).values()] if kind == "collect" else []
+        if path in emptied and not any(it.startswith(f"{path}/") for it in tree):
+            continue
         if path.startswith("c/content-v2/") and now is None and path[2:] in [*word.removes, *taken]:
             continue
-        if kind == "sweep" and path.startswith("c/tmp/.tmp") and now is None:
+        if "sweep" in word.does and path.startswith("c/tmp/.tmp") and now is None:
             continue
         if path.startswith("c/index-v5/") and isinstance(now, tuple):
-            if kind == "compact" or kind in ("remove", "repair", "prune") and now[1].startswith(what[1]):
+            if "compact" in word.does or kind in ("remove", "repair", "prune", "touch") and now[1].startswith(what[1]):
                 if now[0] != what[0]:
                     yield "a bucket has another mode", f"{now[0]:o}, not {what[0]:o}"
                 continue
         yield f"{'removed' if now is None else 'changed'}: something of {'/'.join(path.split('/')[:2])}", path
-    new = [it for it in tree if it not in before and tree[it] != "folder" and it not in own]
+    new = [it for it in tree if it not in before and tree[it] != "folder" and it not in word.own]
+    tmp = "" if kind == "copy" else "c/tmp/"
     for path in sorted(new):
-        if killed and re.fullmatch(r"c/tmp/\.tmp[0-9a-f]{16}", path) or path.startswith("c/tmp/") and ran.call.startswith("unlink c/tmp/"):
+        if re.fullmatch(rf"{tmp}\.tmp[0-9a-f]{{16}}", path) and (killed or ran.call.startswith(f"unlink {tmp}.tmp")):
             continue
         yield "a file is left", path
 
 
 def lines(word, ran, gone):
     """What is wrong with the lines that this port can't read, and their contents."""
-    if word.odd and word.words[0] != "clear" and "foreign" not in excused(gone) and not (gone and at_or_below(f"c/{bucket_path('other')}", gone)):
+    is_other = gone and at_or_below(f"c/{bucket_path('other')}", gone)
+    if word.odd and word.words[0] != "clear" and "foreign" not in excused(gone) and not is_other:
         for key, text in ODD.items():
             if line(text) not in ran.tree.get(f"c/{bucket_path(key)}", (0, b""))[1]:
                 yield "a line that can't be read is gone", key
         if "--anyway" not in word.words and f"c/{content_path(FOREIGN)}" not in ran.tree:
             yield "the content of a line that can't be read is gone", ""
+
+
+def fates(out):
+    """How many contents a collection kept, and how many it dropped or left."""
+    counts = {name: int(count) for name, count in re.findall(rb"(?m)^(kept|dropped|young|gone) (\d+)$", out)}
+    return counts.get(b"kept"), sum(counts.values())
 
 
 def ended(word, plain, ran, how, gone):
@@ -97,14 +106,19 @@ def ended(word, plain, ran, how, gone):
         return [] if ran.status == -9 else [("a killed run goes on", shown)]
     if ran.status == word.status or gone and ran.status in (0, 3):
         texts = [("status 0 with a message", shown)] if ran.err and ran.status == 0 else []
-        return texts + ([("done with another output", shown)] if ran.out != plain.out and not gone else [])
+        is_no = word.words[0] in ("exists", "verify") and ran.call.startswith("statx c/content-v2/")  # so a failed question is answered
+        is_young = "--grace" in word.words and fates(ran.out) == fates(plain.out)  # a content that gives no age stays
+        # on a full disk a bucket is removed, and no line of it is left to compact
+        outs = [re.sub(rb"buckets \d+\nbytes \d+\n", b"", it) if "compact" in word.does[1:] else it for it in (ran.out, plain.out)]
+        fits = gone or is_no or is_young or outs[0] == outs[1]
+        return texts + ([] if fits else [("done with another output", shown)])
     if ran.status != 1:
         return [("another status", shown)]
     # the output or the errors themselves fail, or the output names what was left
-    mute = ran.call == "write stream" or word.words[0] == "prune" and b"left " in ran.out
+    mute = ran.call == "write stream" or "prune" in word.does and b"left " in ran.out
     told = [] if mute or MESSAGE.match(ran.err) and ran.err.endswith("\n") else [("failed without a message", shown)]
     whole = {*plain.out.splitlines()} if word.words[0] == "ls" else set()
-    more = word.words[0] != "prune" and not plain.out.startswith(ran.out) and not {*ran.out.splitlines()} <= whole
+    more = "prune" not in word.does and not plain.out.startswith(ran.out) and not {*ran.out.splitlines()} <= whole
     return told + ([("failed with another output", shown)] if more else [])
 
 
@@ -117,5 +131,30 @@ def judged(word, before, plain, ran, how, gone):
     yield from lines(word, ran, gone)
     if done and word.words[0] == "clear" and not gone:
         yield from [("a clear left something", "")] if any(it.startswith("c/") for it in ran.tree) else []
-    if done and word.words[0] == "sweep" and not gone:
+    if done and "sweep" in word.does and not gone:
         yield from [("a sweep left a temporary file", "")] if "c/tmp/.tmp00000000000000aa" in ran.tree else []
+    for path, data in word.own.items() if done and not ran.call.startswith("rename ") else ():
+        if data is not None and Cache(ran.tree, "c").content(path) != data:
+            yield "a file has other bytes than it may", path
+    if done and word.words[0] == "touch" and not gone and Cache(ran.tree, "c").entries["b"]["time"] <= 3:
+        yield "a touched key has its old time", ""
+
+
+def met_by(word, second, before, orders, ran, told):
+    """What is worth a look where a second word was made right before a call, in capitals if it is wrong. A key may have what it has where
+    either word is made first. A key that one of them puts or removes may be lost if the other says so."""
+    found = [] if told.endswith("\n0\n") or told == "0\n" else [("THE SECOND WORD FAILS", told[-80:])]
+    if ran.status not in (word.status, orders[1].status):
+        found.append(("fails" if ran.status == 1 and MESSAGE.match(ran.err) else "ENDS WRONG", f"{ran.status}: {ran.err[:70]!r}"))
+    was, now, *may = (Cache(it, "c") for it in (before, ran.tree, *(it.tree for it in orders)))
+    for key in sorted({*now.entries, *may[0].entries, *may[1].entries}):
+        value = now.value(key)
+        halfway = [was.value(key), *["missing"] * (key in word.made)] if ran.status != word.status else []
+        if value in [it.value(key) for it in may] + halfway:
+            continue
+        loses = word.loses and key in second.made or second.loses and key in word.made or word.words[0] == "clear"
+        is_lost = loses and value in ("absent", "missing", was.value(key))
+        found.append(("a key is lost, or is there again" if is_lost else "A KEY HAS WHAT IT MAY NOT", f"{key}: {value[:20]!r}"))
+    gone = [it for it in before if before[it] != "folder" and it not in ran.tree and all(it in last.tree for last in orders)]
+    left = [it for it in ran.tree if ran.tree[it] != "folder" and it not in before and not any(it in last.tree for last in orders)]
+    return found + [("A FILE IS LEFT", it) for it in left] + [("SOMETHING IS REMOVED", it) for it in gone if not found]
