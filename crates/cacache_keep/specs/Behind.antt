@@ -1,4 +1,4 @@
--- Where a key leads after a collection, while contents are exported and other keys are written.
+-- Where a key leads after a collection, while others export contents and write keys.
 use Rattle.std.specs.Prelude.{◌≡◌, ◌⊎◌, ◌<◌, ◌^◌, ℕ, List, [], ◌∷◌, Option, None, Some, Result, Contains, IfSome, IsUtf8, filter_map}
 use Rattle.cacache_core.specs.{declared.{errors.Error.{Error}, integrity.digest.Hash.{Hash}}, Integrity.{IsIntegrity}, Paths.{Names, home_of}}
 use Rattle.cacache_store.specs.declared.store.{log.LogItem.{LogItem}, plain.PlainTemp.{PlainTemp}}

@@ -44,7 +44,7 @@ ListsInTurn (l ∷ listings) old new =
 abbrev pub parts_in : Bool → Listed → List (List ℕ)
 parts_in last l = map (λ n. join l.0 n.name) (filter (belongs last) l.1)
 
--- the log gained a listing of each of these folders, and these are the paths of what belongs there
+-- the log gained a listing of each of these folders, with these paths of what belongs there
 pub record ListsParts
     (last : Bool) (folders paths : List (List ℕ)) (old new : Option (List LogItem))
     : Type 0 where

@@ -92,7 +92,7 @@ IsFirstError items e =
 abbrev pub IsIndexError : List Item → Error → Type 0
 IsIndexError items e = IsFirstError items e × (HasNoIndex items → ⊥)
 
--- the reply says the error: it is why the call was refused, or the first item that couldn't be read
+-- the reply says the error: why the call was refused, or the first item that couldn't be read
 abbrev pub SaysError : Reply → Error → Type 0
 SaysError (replies.Refused error) e = error ≡ without_message e
 SaysError (replies.Listed items) e = IsIndexError items (without_message e)

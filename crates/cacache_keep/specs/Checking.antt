@@ -1,4 +1,4 @@
--- What a listing of the index tells of lines that this crate can't read, and what is done about them, over any store.
+-- Lines of the index that this crate can't read, and what is done about them, over any store.
 use Rattle.std.specs.{Prelude.{◌≡◌, ℕ, List, [], ◌∷◌, Bool, Option, None, Some, filter_map, if◌then◌else◌}, List.{list_any}}
 use Rattle.cacache_core.specs.declared.errors.{Error.{Error}, Fault.TheVariants.{Unsupported}}
 use Rattle.cacache_store.specs.declared.store.answer.Answer.TheVariants as answers

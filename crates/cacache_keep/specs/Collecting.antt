@@ -11,7 +11,7 @@ SparesRoots roots unused rest =
     (live hashes : List Hash) × (map Some hashes ≡ map address roots)
     × ((h : Hash) → Contains live h ↔ Contains hashes h) × AreOthers live unused rest
 
--- what a collection is told: what to do about odd lines, further roots, and whether it is durable
+-- what a collection is told: about odd lines and further roots, and whether it is durable
 pub record Told : Type 0 where
   pub odd : OddLines
   pub roots : List (List Hash)
@@ -42,7 +42,7 @@ pub record CollectsBy
 abbrev pub tally_of : Collection → Tally
 tally_of c = record { dropped = c.dropped; young = c.young; gone = c.gone }
 
--- what neither an entry nor a further root names is removed, if it is old enough; a durable one syncs the index first
+-- what neither an entry nor a root names is removed, if it is old enough; a durable one first syncs the index
 abbrev pub CollectsAs :
     Told → Option ℕ → Site → Collection → Option (List LogItem) → Option (List LogItem) → Type 0
 CollectsAs told limit site c old new = CollectsBy told limit site c.kept (tally_of c) old new
@@ -57,7 +57,7 @@ StopsRest told limit site rest e old new =
     ⊎ ((synced : Option (List LogItem)) × SyncsIndex told.durable site.cache old synced
     × StopsDropping limit site.cache rest e synced new)
 
--- odd lines in these buckets are refused before anything is removed; or memory ran out; or the error came later
+-- odd lines in these buckets are refused before any removal; or memory ran out; or the error came later
 abbrev pub StopsChosen : Told → Option ℕ → Site → List (List ℕ) → List (List Hash) → Error
     → Option (List LogItem) → Option (List LogItem) → Type 0
 StopsChosen told limit site odd unused e old new =

@@ -139,7 +139,7 @@ pub record StopsCompactingEach
   pub compacting : CompactsEach durable cache buckets old between
   pub stop : StopsBucket durable cache next e between new
 
--- all buckets at these paths were compacted, and the error ended a sync of the folders above theirs
+-- all buckets at these paths were compacted, and the error ended a sync of folders above theirs
 abbrev pub StopsAfterAll : Bool → List ℕ → List (List ℕ) → List (List ℕ) → Error
     → Option (List LogItem) → Option (List LogItem) → Type 0
 StopsAfterAll durable cache tops paths e old new =

@@ -27,7 +27,7 @@ finding l = (commands.Find l.0.key, replies.LookedUp l.1)
 abbrev pub Leads : Lookup → Type 0
 Leads l = is_led l.0 l.1 ≡ true
 
--- the log gained a lookup of the key of each of these entries, in turn, which found the entry
+-- the log gained a lookup of the key of each of these entries, in turn, which found it
 pub record Confirms
     (site : Site) (entries : List Found) (old new : Option (List LogItem)) : Type 0 where
   pub lookups : List Lookup

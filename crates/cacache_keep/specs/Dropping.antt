@@ -9,7 +9,7 @@ use Rattle.cacache_keep.specs.{declared.{dropping.Tally.{Tally}, grace.Fate.{Fat
 
 -- ---- one content
 
--- the content at the path was removed, and then the folders above it that were empty; or nothing was there
+-- the content at the path was removed, then the folders above it that were empty; or nothing was there
 abbrev pub Unlinks : List ℕ → Fate → Option (List LogItem) → Option (List LogItem) → Type 0
 Unlinks path Dropped old new =
     (cut : Option (List LogItem)) × Does (steps.RemoveFile path) answers.Done old cut

@@ -52,8 +52,7 @@ fn leads_nowhere<S: Store, C: Clock, N: Names>(
     }
 }
 
-/// Adds a tombstone for the key, if it leads to an entry whose content is missing. Returns whether the key is
-/// spared.
+/// Adds a tombstone for the key, if it leads to an entry without content. Returns whether the key is spared.
 fn bury<S: Store, C: Clock, N: Names>(
     env: &mut Env<S, C, N>,
     shown: &Shown,

@@ -90,8 +90,7 @@ pub struct Collection {
     pub gone: u64,
 }
 
-/// How a cache is collected, also after a pruning: which contents stay beside those of entries, and what is synced. Contracts
-/// see the options.
+/// How a cache is collected, also after a pruning: which contents stay beside those of entries, and what is synced.
 #[derive(Clone, Copy)]
 pub struct CollectOpts<'a> {
     odd: OddLines,
@@ -141,8 +140,7 @@ pub(crate) fn collect_old<S: Stamps, C: Clock, N: Names>(
 }
 
 impl<'a> CollectOpts<'a> {
-    /// Blank options: odd lines are refused, no content is spared for its age, there are no further roots, and nothing is
-    /// synced.
+    /// Blank options: odd lines are refused, no content is spared for its age, no root is added, and nothing is synced.
     pub fn new() -> CollectOpts<'a>
         ensures odd { result.odd ≡ Refuse }
         ensures grace { result.grace ≡ None }

@@ -4,11 +4,11 @@ ghost use Rattle.cacache_keep.specs.{Behind.{CollectionsKeepKeys, LaterKeysStay,
 
 use cacache_disk::memory::MemStore;
 
-/// On a store in memory that nobody else writes to meanwhile, whatever was planted in the cache before: a listing
-/// lists what the cache holds. A verification counts the contents whose bytes meet their address, and names the
-/// others. A collection leaves the contents that an entry has, a plan says which it drops, and a second one drops
-/// nothing. A sweep leaves all but the temporary files. A repair leaves the good contents and the keys that lead to
-/// one, if nothing strange lies in the cache's folder. If each entry also lies in its key's bucket, a verification
+/// On a store in memory that nobody else writes to, in a cache with a path that names a folder, whatever was planted
+/// there: a listing lists what the cache holds. A verification counts the contents whose bytes meet their address, and
+/// names the others. A collection leaves the contents that an entry has, a plan says which it drops, and a second one
+/// drops nothing. A sweep leaves all but the temporary files. A repair leaves the good contents and the keys that lead
+/// to one, if nothing strange lies in the cache's folder. If each entry also lies in its key's bucket, a verification
 /// after it finds no damaged content and no entry without one. There a sweep and a repair leave each thing in its
 /// place, and each key that led to a good content leads to it.
 ///
@@ -38,8 +38,8 @@ use cacache_disk::memory::MemStore;
 /// integrity too.
 ///
 /// What the log gained is said by the clauses of `list` (`lists`, `by_hash`), `verify` (`verifies`), `collect`
-/// (`collects`), `plan` (`plans`), `sweep` (`sweeps`), `repair` (`repairs`) and `compact` (`compacts`, `stops`). This
-/// function says that the log of the store that it gets is a disk's, which the laws ask of the log after a call.
+/// (`collects`), `plan` (`plans`), `sweep` (`sweeps`), `repair` (`repairs`) and `compact` (`compacts`, `stops`). Here
+/// `logged` says that the store's log is a disk's, which the laws ask of it after a call.
 pub fn keep_laws(store: &MemStore)
     ensures logged { IsLog store.now }
     ensures lists { ListsHold }

@@ -183,8 +183,8 @@ impl CollectOpts<'_> {
     ///
     /// A tombstone that fails doesn't end the call, as on a full disk. If it failed with `Device`, `ShortAppend` or
     /// `WriteZero`, the key's bucket is read. It is removed if no line of it is odd or decides another key, and the key
-    /// still leads to the entry there: that needs no room and gives some. An entry whose key couldn't be dropped is left
-    /// and told, and the call goes on. The collection comes after all keys. If an error ends that one, this call is `Ok`, so
+    /// still leads to the entry there: that needs no room and gives some. `left` has each entry whose key couldn't be
+    /// dropped, and the call goes on. The collection comes after all keys. If an error ends that one, this call is `Ok`, so
     /// that its caller learns which keys are dropped, and `collected` has the error.
     ///
     /// Bytes are counted on the disk, as `plan_prune` asks for them, and a content that several entries share counts

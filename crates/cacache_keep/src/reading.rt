@@ -61,8 +61,7 @@ fn judged(alloc: Global, checker: IntegrityChecker, bytes: u64) -> Result<Judgem
     }
 }
 
-/// Whether the bytes of the open content meet its address, and how many they are. They are read to their end, one
-/// piece at a time.
+/// Whether the bytes of the open content meet its address, and how many they are. They are read in pieces.
 fn judge_bytes<S: Store>(
     alloc: Global,
     store: &mut S,

@@ -106,7 +106,7 @@ WritesKey cache key bytes (Stored i) old new = HasKey cache key i bytes new
 WritesKey cache key bytes (Refused e) old new = IsExcused e old new
 WritesKey cache key bytes r old new = ⊥
 
--- so does each write, whatever the cache holds
+-- so does each plain write, whatever the cache holds
 abbrev pub WritesLast : Type 0
 WritesLast =
     (a : Algorithm) (cache key bytes : List ℕ) (moment : ℕ) (r : Reply) (old new : List LogItem)

@@ -186,14 +186,14 @@ FullRemovalsAnswer =
     → OrMemory
     (r ≡ fully_reply (home_of cache) (tree_of old) key (found_under cache key old)) r
 
--- a listing reads each bucket that is there
+-- a listing has entries, or came to too many names or items; without an index it says so
 abbrev pub ListingsAnswer : Type 0
 ListingsAnswer =
     (cache : List ℕ) (r : Reply) (old new : List LogItem)
     → NamesFolder cache → IsStanding cache old → Called cache commands.Ls r old new
     → OrMemory (ListsAll (node_below (home_of cache) (tree_of old) (index_area ∷ [])) r) r
 
--- a clearing removes all that is there
+-- a clearing is done, or came to too many names; without a folder it says so
 abbrev pub ClearingsAnswer : Type 0
 ClearingsAnswer =
     (cache : List ℕ) (r : Reply) (old new : List LogItem)

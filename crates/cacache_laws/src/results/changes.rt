@@ -36,8 +36,8 @@ pub fn after_write_hash<C: Clock, N: Names>(
     let _log = env.store.log();
 }
 
-/// After `index::insert`: the key leads to the integrity of the options, and to nothing if they have none, or the
-/// error is excused. All else stays.
+/// After `index::insert` without a size and metadata: the key leads to the integrity of the options, and to nothing
+/// if they have none, or the error is excused. All else stays.
 pub fn after_insert<C: Clock, N: Names>(
     env: &Env<MemStore, C, N>,
     cache: &str,
