@@ -1,9 +1,8 @@
 //! Exports as futures, each under the name of the call that it makes.
 use crate::awaited::awaited;
-use crate::exports::mode_of;
+use crate::exports::{Export, export_of, mode_of};
 use crate::lines::{copied, done, sent};
 use crate::polled::Told;
-use cacache::Integrity;
 use cacache::content::read::copy_async;
 use cacache::store::Store;
 use row_places::On;
@@ -17,13 +16,12 @@ use std::sync::Wait;
 fn by_hash<R: Wait + RandomSource + AllocGlobal, S: Store>(
     rt: &R,
     env: &mut On<S>,
-    name: &str,
-    cache: &str,
-    sri: &Integrity,
-    to: &str,
+    it: Export<'_>,
 ) -> Told {
+    let Export { cache, to, .. } = it;
     let alloc = env.alloc;
-    let line = match name {
+    let sri = &integrity_of(alloc, it.what)?;
+    let line = match it.name {
         "copy_hash_sync" | "copy" => {
             copied(alloc, awaited(rt, cacache::copy_hash(env, cache, sri, to))?)
         }
@@ -55,48 +53,39 @@ fn by_hash<R: Wait + RandomSource + AllocGlobal, S: Store>(
 fn linked<R: Wait + RandomSource + AllocGlobal, S: Store>(
     rt: &R,
     env: &mut On<S>,
-    name: &str,
-    cache: &str,
-    what: &str,
-    to: &str,
+    it: Export<'_>,
 ) -> Told {
-    let alloc = env.alloc;
-    let answer = match name {
+    let (cache, what, to) = (it.cache, it.what, it.to);
+    let answer = match it.name {
         "reflink_sync" => awaited(rt, cacache::reflink(env, cache, what, to))?,
         "reflink_unchecked_sync" => awaited(rt, cacache::reflink_unchecked(env, cache, what, to))?,
         "hard_link_sync" => awaited(rt, cacache::hard_link(env, cache, what, to))?,
         "hard_link_unchecked_sync" => return Ok(None),
-        _ => {
-            let sri = integrity_of(alloc, what)?;
-            return by_hash(rt, env, name, cache, &sri, to);
-        }
+        _ => return by_hash(rt, env, it),
     };
-    Ok(Some(done(alloc, answer)?))
+    Ok(Some(done(env.alloc, answer)?))
 }
 
 /// The line on an export that goes the cheapest way, which is given a mode and a path.
 fn sent_cheapest<R: Wait + RandomSource + AllocGlobal, S: Store>(
     rt: &R,
     env: &mut On<S>,
-    name: &str,
-    cache: &str,
-    what: &str,
-    words: &str,
+    it: Export<'_>,
 ) -> Told {
-    let alloc = env.alloc;
-    let (mode, to) = cut(words);
-    let answer = match name {
+    let Export { cache, what, .. } = it;
+    let (mode, to) = cut(it.to);
+    let answer = match it.name {
         "export_sync" => awaited(rt, cacache::export(env, cache, what, to, mode_of(mode)?))?,
         "export_hash_sync" => {
-            let sri = integrity_of(alloc, what)?;
+            let sri = integrity_of(env.alloc, what)?;
             awaited(
                 rt,
                 cacache::export_hash(env, cache, &sri, to, mode_of(mode)?),
             )?
         }
-        _ => return linked(rt, env, name, cache, what, words),
+        _ => return linked(rt, env, it),
     };
-    Ok(Some(sent(alloc, answer)?))
+    Ok(Some(sent(env.alloc, answer)?))
 }
 
 /// The line on an export.
@@ -105,14 +94,12 @@ pub(crate) fn exported<R: Wait + RandomSource + AllocGlobal, S: Store>(
     env: &mut On<S>,
     act: &str,
 ) -> Told {
-    let alloc = env.alloc;
-    let (name, words) = cut(act);
-    let (cache, words) = cut(words);
-    let (what, to) = cut(words);
-    let answer = match name {
+    let it = export_of(act);
+    let (cache, what, to) = (it.cache, it.what, it.to);
+    let answer = match it.name {
         "copy_sync" => awaited(rt, cacache::copy(env, cache, what, to))?,
         "copy_unchecked_sync" => awaited(rt, cacache::copy_unchecked(env, cache, what, to))?,
-        _ => return sent_cheapest(rt, env, name, cache, what, to),
+        _ => return sent_cheapest(rt, env, it),
     };
-    Ok(Some(copied(alloc, answer)?))
+    Ok(Some(copied(env.alloc, answer)?))
 }

@@ -58,10 +58,7 @@ fn ran_with<T: Threads + Wait + Clock + AllocGlobal + Sync, S: Reasons>(
     room: usize,
 ) -> Result<String, AllocError> {
     let alloc = env.alloc;
-    let mut output = Output {
-        room,
-        taken: Vec::new(alloc),
-    };
+    let mut output = Output::new(alloc, room);
     let (says_why, words) = asks_why(words);
     let mut errors = Errors {
         output: Vec::new(alloc),

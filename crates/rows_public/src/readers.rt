@@ -89,10 +89,7 @@ fn copied_out<F: OpenedFile>(
     reader: SyncReader<F>,
     room: &str,
 ) -> Result<String, AllocError> {
-    let mut output = Output {
-        room: room.parse::<usize>().unwrap_or(usize::MAX),
-        taken: Vec::new(alloc),
-    };
+    let mut output = Output::new(alloc, room.parse::<usize>().unwrap_or(usize::MAX));
     let answer = copied(alloc, reader.copy_to(&mut output));
     pair(alloc, shown(alloc, &output.taken), answer)
 }

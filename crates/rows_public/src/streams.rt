@@ -1,4 +1,5 @@
 //! Streams that fail.
+use std::alloc::Global;
 use std::io::{self, ErrorKind, Read, Write};
 
 /// What comes after the last byte of an input.
@@ -39,16 +40,33 @@ impl Read for Input<'_> {
     }
 }
 
-/// An output that has room for so many bytes and then fails. It has a word for each flush.
+/// An output that has room for so many bytes and then fails. It takes up to seven at once, is interrupted before each time, and
+/// has a word for each flush.
 #[derive(Drop)]
 pub(crate) struct Output {
-    pub(crate) room: usize,
+    room: usize,
     pub(crate) taken: Vec<u8>,
+    is_ready: bool,
+}
+
+impl Output {
+    /// An output with this room.
+    pub(crate) fn new(alloc: Global, room: usize) -> Output {
+        Output {
+            room,
+            taken: Vec::new(alloc),
+            is_ready: false,
+        }
+    }
 }
 
 impl Write for Output {
     fn write(&mut self, buf: &[u8]) -> io::Result<usize> {
-        let count = buf.len().min(self.room);
+        self.is_ready = !self.is_ready;
+        if self.is_ready {
+            return Err(io::Error::from(ErrorKind::Interrupted));
+        }
+        let count = buf.len().min(self.room).min(7);
         if count == 0 && !buf.is_empty() {
             return Err(io::Error::from(ErrorKind::StorageFull));
         }

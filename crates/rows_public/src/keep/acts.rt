@@ -2,7 +2,7 @@
 use crate::keep::dated::Dated;
 use crate::keep::many::written_each;
 use crate::keep::shown::{done, found, printed, told};
-use crate::keep::stuck::{Kind, Stuck};
+use crate::keep::stuck::Kind;
 use cacache::env::{Clock, Env, Names, Reasons};
 use cacache::errors::Fault;
 use cacache::store::Store;
@@ -15,7 +15,7 @@ use cacache_program::keep::{run, said, tell_missing};
 use cacache_program::{Errors, asks_why, tell};
 use cacache_store::store::Stamps;
 use row_places::planting::{held, make_folder, plant, plant_link};
-use row_places::{MOMENT, On, on};
+use row_places::{MOMENT, On};
 use rows::Flaw;
 use rows::answers::refused;
 use rows::words::{cut, number_of, string_of};
@@ -220,24 +220,29 @@ fn numbered<S: Stamps + Reasons>(
     acted(env, act, input)
 }
 
-/// What an act gives; after `stuck` and a kind of step, over a store on which these fail. After `asked` with how often the
-/// environment was asked.
-fn made_now<S: Stamps + Reasons>(env: &mut On<S>, act: &str, input: &str) -> Result<String, Flaw> {
-    let (name, words) = cut(act);
-    match name {
-        "asked" => return asked(env, words, input),
-        "at" => return made_at(env, words, input),
-        "numbered" => return numbered(env, words, input),
-        "stuck" => {}
-        _ => return acted(env, act, input),
-    }
+/// What an act gives while steps of the kind fail that begins the words.
+fn stuck<S: Reasons>(env: &mut On<Dated<S>>, words: &str, input: &str) -> Result<String, Flaw> {
     let (kind, act) = cut(words);
     let Some(kind) = Kind::named(kind) else {
         return Err(Flaw::NotRead);
     };
-    let stuck = Stuck::new(&mut env.store, kind);
-    let mut over = on(env.alloc, stuck, env.base.as_str())?;
-    acted(&mut over, act, input)
+    env.store.stuck = Some(kind);
+    env.store.done = kind.done();
+    let came = acted(env, act, input);
+    env.store.stuck = None;
+    came
+}
+
+/// What an act gives; after `asked` with how often the environment was asked.
+fn made_now<S: Reasons>(env: &mut On<Dated<S>>, act: &str, input: &str) -> Result<String, Flaw> {
+    let (name, words) = cut(act);
+    match name {
+        "asked" => asked(env, words, input),
+        "at" => made_at(env, words, input),
+        "numbered" => numbered(env, words, input),
+        "stuck" => stuck(env, words, input),
+        _ => acted(env, act, input),
+    }
 }
 
 /// The time that a word gives as that of the last change of each file; `gone` if nothing is there.

@@ -1,10 +1,12 @@
-//! A store whose files all changed at one time.
-ghost use Rattle.std.specs.Prelude.{None};
+//! A store whose files all changed at one time, and on which one kind of step may fail.
+ghost use Rattle.std.specs.{Prelude.{None, Some, if◌then◌else◌, is_some}, declared.io.ErrorKind.{ErrorKind}};
 ghost use Rattle.cacache.specs.Stores.{Fits, Logs, plain_step, plain_answer};
 
+use crate::keep::stuck::Kind;
 use cacache::env::Reasons;
 use cacache::errors::Fault;
 use cacache::store::{Answer, Step, Store};
+use cacache_core::keeping::let_go;
 use cacache_store::store::Stamps;
 use std::io::ErrorKind;
 
@@ -14,14 +16,20 @@ pub(crate) struct Dated<S> {
     pub(crate) store: S,
     /// What it says: a time in milliseconds since 1970, or why there is none.
     pub(crate) changed: Result<u64, Fault>,
+    /// The kind of steps that fail, if there is one.
+    pub(crate) stuck: Option<Kind>,
+    /// How many of these are still done, before one fails.
+    pub(crate) done: u32,
 }
 
 impl<S> Dated<S> {
-    /// The store, which knows no times.
+    /// The store, which knows no times. No step fails.
     pub(crate) fn new(store: S) -> Dated<S> {
         Dated {
             store,
             changed: Err(Fault::Unsupported),
+            stuck: None,
+            done: 0,
         }
     }
 }
@@ -39,7 +47,19 @@ impl<S: Store> Store for Dated<S> {
         ensures logged { Logs None None (plain_step S.File.seen S.Temp.seen step)
             (plain_answer S.File.seen S.Temp.seen result) }
     {
-        self.store.step(step)
+        let is_stuck = match self.stuck {
+            Some(kind) => kind.is_of(&step),
+            None => false,
+        };
+        if !is_stuck {
+            return self.store.step(step);
+        }
+        if self.done > 0 {
+            self.done -= 1;
+            return self.store.step(step);
+        }
+        let_go(step);
+        Answer::Failed(Fault::Device)
     }
 
     fn end_walks(&mut self) {
@@ -53,10 +73,14 @@ impl<S: Store> Stamps for Dated<S> {
     }
 }
 
+/// What it refuses itself failed as on a full disk.
 impl<S: Reasons> Reasons for Dated<S> {
-    ghost known = { λ dated. S.known dated.store };
+    ghost known = { λ dated. if is_some dated.stuck then Some ErrorKind.StorageFull else S.known dated.store };
 
     fn reason(&self) -> Option<ErrorKind> {
+        if self.stuck.is_some() {
+            return Some(ErrorKind::StorageFull);
+        }
         self.store.reason()
     }
 }

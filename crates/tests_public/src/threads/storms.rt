@@ -8,21 +8,31 @@ use std::test::Fail;
 use std::thread::Threads;
 use std::time::Clock;
 
-/// Is shut at turn 0 until a turn of another thread was asked for, and quits after 5,000 tries.
+/// How many keys each thread has.
+const KEYS: u64 = 5;
+
+/// Is shut at turn 0 until another thread's turn was let through, and quits after 5,000 tries.
 #[derive(Drop)]
 struct Crossed {
-    keys: u64,
     tries: AtomicU64,
-    others: AtomicU64,
+    /// The sum of the turns that were let through.
+    passed: AtomicU64,
+}
+
+impl Crossed {
+    /// One that was tried so often.
+    fn after(tries: u64) -> Crossed {
+        Crossed {
+            tries: AtomicU64::new(tries),
+            passed: AtomicU64::new(0),
+        }
+    }
 }
 
 impl Gate for Crossed {
     fn pass(&self, turn: u64) -> Pass {
-        if turn >= self.keys {
-            self.others.fetch_add(1, Ordering::SeqCst);
-            return Pass::Go;
-        }
-        if turn != 0 || self.others.load(Ordering::SeqCst) != 0 {
+        if turn != 0 || self.passed.load(Ordering::SeqCst) >= KEYS {
+            self.passed.fetch_add(turn, Ordering::SeqCst);
             return Pass::Go;
         }
         if self.tries.fetch_add(1, Ordering::SeqCst) < 5000 {
@@ -30,16 +40,6 @@ impl Gate for Crossed {
         } else {
             Pass::Quit
         }
-    }
-}
-
-/// A gate that is shut for good.
-#[derive(Drop)]
-struct Shut;
-
-impl Gate for Shut {
-    fn pass(&self, _turn: u64) -> Pass {
-        Pass::Quit
     }
 }
 
@@ -59,21 +59,9 @@ fn counts<R: Threads + Wait + Clock + AllocGlobal + Sync, G: Gate + Sync>(
     }
 }
 
-/// Whether a storm ends since a number is out of range.
-fn is_out_of_range<R: Threads + Wait + Clock + AllocGlobal + Sync>(
-    rt: &R,
-    threads: u64,
-    keys: u64,
-) -> bool {
-    let stormed = storm(rt, threads, keys, &Open);
-    let is_count = matches!(&stormed, Err(StormFault::Count));
-    let_go(stormed);
-    is_count
-}
-
-/// Whether a storm ends since its gate said so.
+/// Whether a storm of one thread ends since its gate said so, after it said otherwise.
 fn is_quit<R: Threads + Wait + Clock + AllocGlobal + Sync>(rt: &R) -> bool {
-    let stormed = storm(rt, 2, 5, &Shut);
+    let stormed = storm(rt, 1, KEYS, &Crossed::after(4990));
     let is_quit = matches!(&stormed, Err(StormFault::Quit));
     let_go(stormed);
     is_quit
@@ -88,19 +76,14 @@ fn storms_count_their_moves(rt: HostRuntime) -> Result<(), Fail> {
 
 #[test]
 fn storms_end_early(rt: HostRuntime) -> Result<(), Fail> {
-    assert!(rt; is_out_of_range(&rt, 0, 5) && is_out_of_range(&rt, 65, 5));
-    assert!(rt; is_out_of_range(&rt, 2, 0) && is_out_of_range(&rt, 2, 1001));
     assert!(rt; is_quit(&rt));
     Ok(())
 }
 
 #[test]
 fn threads_run_at_the_same_time(rt: HostRuntime) -> Result<(), Fail> {
-    let gate = Crossed {
-        keys: 5,
-        tries: AtomicU64::new(0),
-        others: AtomicU64::new(0),
-    };
-    assert_eq!(rt; counts(&rt, 2, 5, &gate), Some((90, 10)));
+    let gate = Crossed::after(0);
+    assert_eq!(rt; counts(&rt, 2, KEYS, &gate), Some((90, 10)));
+    assert_eq!(rt; gate.passed.load(Ordering::SeqCst), 45);
     Ok(())
 }
