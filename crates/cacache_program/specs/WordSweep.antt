@@ -24,7 +24,7 @@ module _ {S C N : Type 0} (log : S → Option (List LogItem)) where
   FailsToSweep cache old new before after status =
       Fails log (StopsSweeping cache) old new before after status
 
-  -- one of the two, and in the environment only the store may have changed
+  -- one of the two; in the environment only the store may have changed
   abbrev pub Sweeps :
       List ℕ → Env S C N → Env S C N → Option (List ℕ) → Option (List ℕ) → ℕ → Type 0
   Sweeps cache old new before after status =

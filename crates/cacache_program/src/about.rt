@@ -75,8 +75,7 @@ fn text_of(words: &[String], about: About) -> Option<&'static str>
 }
 
 /// Prints the program's help if the only word is `--help` or `-h`, and its version if it is `--version` or `-V`, and returns
-/// the status: 0, or 1 if the output failed, which is printed on `errors`. Other words get no status here, and nothing is
-/// printed.
+/// the status: 0, or 1 if the output failed, which is printed on `errors`. Other words get no status, and print nothing.
 pub fn tell<W: Write, E: Write>(
     words: &[String],
     about: About,

@@ -88,13 +88,18 @@ fn tell_about<E: Write>(errors: &mut Errors<E>, error: &Error, about: &str) -> u
 }
 
 /// Prints why a text gave no integrity, and returns the status of a failed call. If the errors say why, the text
-/// comes after it in brackets.
-pub(crate) fn tell_unread<E: Write>(errors: &mut Errors<E>, error: &Error, text: &str) -> u8
+/// comes after it in brackets, or why its file couldn't be read.
+pub(crate) fn tell_unread<E: Write>(
+    errors: &mut Errors<E>,
+    error: &Error,
+    text: &str,
+    reason: Option<ErrorKind>,
+) -> u8
     ensures { result ≡ 1 }
 {
     match error {
         Error::IntegrityError(_) => tell_about(errors, error, text),
-        _ => tell_failed_call(errors, error, None),
+        _ => tell_failed_call(errors, error, reason),
     }
 }
 

@@ -45,6 +45,6 @@ pub(crate) fn exists<S: Store, C: Clock, N: Names, W: Write, E: Write>(
 {
     match Integrity::parse(env.alloc, text) {
         Ok(sri) => print_answer(env, cache, &sri, output, errors),
-        Err(error) => tell_unread(errors, &error, text),
+        Err(error) => tell_unread(errors, &error, text, None),
     }
 }

@@ -42,6 +42,6 @@ pub(crate) fn read_hash<S: Reasons, C: Clock, N: Names, W: Write, E: Write>(
 {
     match Integrity::parse(env.alloc, text) {
         Ok(sri) => print_content(env, cache, &sri, output, errors),
-        Err(error) => tell_unread(errors, &error, text),
+        Err(error) => tell_unread(errors, &error, text, None),
     }
 }

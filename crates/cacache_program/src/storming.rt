@@ -75,8 +75,7 @@ fn tell<W: Write, E: Write>(
     put_made(storm_text(alloc, &storm), 0, output, errors)
 }
 
-/// Runs a storm of so many threads with so many keys each, and prints what it came to. It waits until
-/// all threads are done.
+/// Runs a storm of so many threads with so many keys each, waits for them, and prints what it came to.
 pub(crate) fn storm<T: Threads + Wait + Clock + AllocGlobal + Sync, W: Write, E: Write>(
     rt: &T,
     threads: &str,

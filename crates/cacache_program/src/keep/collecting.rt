@@ -147,7 +147,7 @@ pub(crate) fn collect_by<S: Reasons + Stamps, C: Clock, N: Names, W: Write, E: W
 {
     match roots_of(env, order.keep) {
         Ok(roots) => collect_with_roots(env, order, roots.as_slice(), output, errors),
-        Err(error) => tell_unread(errors, &error, order.keep.unwrap_or("")),
+        Err(error) => tell_unread(errors, &error, order.keep.unwrap_or(""), env.store.reason()),
     }
 }
 

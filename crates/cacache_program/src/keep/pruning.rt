@@ -73,7 +73,7 @@ pub(crate) fn prune_and_print<S: Reasons + Stamps, C: Clock, N: Names, W: Write,
 {
     match roots_of(env, order.keep) {
         Ok(roots) => prune_with_roots(env, order, roots.as_slice(), output, errors),
-        Err(error) => tell_unread(errors, &error, order.keep.unwrap_or("")),
+        Err(error) => tell_unread(errors, &error, order.keep.unwrap_or(""), env.store.reason()),
     }
 }
 
