@@ -32,7 +32,7 @@ def values(word, before, ran, done, gone):
     was, now = Cache(before, "c"), Cache(ran.tree, "c")
     for key in sorted({*was.entries, *now.entries, *word.made}):
         may = {word.made.get(key, was.value(key))}
-        if not done or key in excused(gone):
+        if not done or gone and "1000" in word.words or key in excused(gone):  # what is gone has no bytes
             may.add(was.value(key))
         if word.words[0] == "clear":
             may = {"absent"} if done else {was.value(key), "absent", "missing"}

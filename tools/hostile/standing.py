@@ -6,10 +6,12 @@ import json
 import os
 import pathlib
 import re
+from functools import cache
 
 NUMBER = range(0, 2**64)  # what a time and a size may be
 
 
+@cache
 def content_path(data, algorithm="sha256"):
     """Where a content lies below the cache."""
     digest = hashlib.new(algorithm, data).hexdigest()
@@ -21,6 +23,7 @@ def integrity_of(data):
     return "sha256-" + base64.b64encode(hashlib.sha256(data).digest()).decode()
 
 
+@cache
 def bucket_path(key):
     """Where the lines of a key lie below the cache."""
     digest = hashlib.sha1(key.encode()).hexdigest()
@@ -46,6 +49,7 @@ def whole(value):
     return not isinstance(value, float) and (not isinstance(value, int) or -(2**63) <= value < 2**64)
 
 
+@cache
 def read_entry(piece):
     """The entry of a bucket's piece, None where it is none."""
     try:
@@ -64,23 +68,26 @@ def read_entry(piece):
 
 def stands(root):
     """All that stands below a folder: each path with `folder`, the text of a link, or a file's mode and bytes."""
-    found = {}
-    for place, folders, files in os.walk(root):
-        for name in [*folders, *files]:
-            path = os.path.join(place, name)
-            if os.path.islink(path):
-                found[os.path.relpath(path, root)] = os.readlink(path)
-            elif os.path.isdir(path):
-                found[os.path.relpath(path, root)] = "folder"
+    found, folders = {}, [""]
+    for folder in folders:
+        for it in os.scandir(f"{root}/{folder}"):
+            path = folder + it.name
+            if it.is_symlink():
+                found[path] = os.readlink(it.path)
+            elif it.is_dir():
+                found[path] = "folder"
+                folders.append(f"{path}/")
             else:
-                found[os.path.relpath(path, root)] = os.stat(path).st_mode & 0o7777, pathlib.Path(path).read_bytes()
+                found[path] = it.stat().st_mode & 0o7777, pathlib.Path(it.path).read_bytes()
     return found
 
 
-def lay(root, tree):
-    """Puts into an empty folder what is to stand there."""
-    for path, what in sorted(tree.items()):
-        at = pathlib.Path(root, path)
+def lay(root, tree, now):
+    """Has this tree stand in a folder, where the other one stands now."""
+    for path in sorted((it for it in now if now[it] != tree.get(it)), reverse=True):
+        (os.rmdir if now[path] == "folder" else os.unlink)(f"{root}/{path}")
+    for path in sorted(it for it in tree if now.get(it) != tree[it]):
+        at, what = pathlib.Path(root, path), tree[path]
         if what == "folder":
             at.mkdir()
         elif isinstance(what, str):
