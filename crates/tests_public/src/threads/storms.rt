@@ -43,6 +43,16 @@ impl Gate for Crossed {
     }
 }
 
+/// A gate that is shut for good.
+#[derive(Drop)]
+struct Shut;
+
+impl Gate for Shut {
+    fn pass(&self, _turn: u64) -> Pass {
+        Pass::Quit
+    }
+}
+
 /// How many moves and entries a storm comes to, if it comes to its end.
 fn counts<R: Threads + Wait + Clock + AllocGlobal + Sync, G: Gate + Sync>(
     rt: &R,
@@ -59,9 +69,25 @@ fn counts<R: Threads + Wait + Clock + AllocGlobal + Sync, G: Gate + Sync>(
     }
 }
 
-/// Whether a storm of one thread ends since its gate said so, after it said otherwise.
-fn is_quit<R: Threads + Wait + Clock + AllocGlobal + Sync>(rt: &R) -> bool {
-    let stormed = storm(rt, 1, KEYS, &Crossed::after(4990));
+/// Whether a storm ends since a number is out of range.
+fn is_out_of_range<R: Threads + Wait + Clock + AllocGlobal + Sync>(
+    rt: &R,
+    threads: u64,
+    keys: u64,
+) -> bool {
+    let stormed = storm(rt, threads, keys, &Open);
+    let is_count = matches!(&stormed, Err(StormFault::Count));
+    let_go(stormed);
+    is_count
+}
+
+/// Whether a storm ends since its gate said so.
+fn is_quit<R: Threads + Wait + Clock + AllocGlobal + Sync, G: Gate + Sync>(
+    rt: &R,
+    threads: u64,
+    gate: &G,
+) -> bool {
+    let stormed = storm(rt, threads, KEYS, gate);
     let is_quit = matches!(&stormed, Err(StormFault::Quit));
     let_go(stormed);
     is_quit
@@ -76,7 +102,10 @@ fn storms_count_their_moves(rt: HostRuntime) -> Result<(), Fail> {
 
 #[test]
 fn storms_end_early(rt: HostRuntime) -> Result<(), Fail> {
-    assert!(rt; is_quit(&rt));
+    assert!(rt; is_out_of_range(&rt, 0, 5) && is_out_of_range(&rt, 65, 5));
+    assert!(rt; is_out_of_range(&rt, 2, 0) && is_out_of_range(&rt, 2, 1001));
+    assert!(rt; is_quit(&rt, 2, &Shut));
+    assert!(rt; is_quit(&rt, 1, &Crossed::after(4990)));
     Ok(())
 }
 
