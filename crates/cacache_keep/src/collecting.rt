@@ -84,7 +84,7 @@ pub struct Collection {
     pub kept: u64,
     /// How many contents are removed.
     pub dropped: u64,
-    /// How many contents that nothing names were left for their age.
+    /// How many contents that nothing names were left, as young or of unknown age.
     pub young: u64,
     /// How many such contents were gone when their turn came, since another call removed them.
     pub gone: u64,

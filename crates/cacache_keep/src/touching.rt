@@ -54,11 +54,11 @@ fn check_bucket<S: Store>(alloc: Global, store: &mut S, cache: &str, key: &str) 
     Ok(())
 }
 
-/// Marks a key as used now, so that `prune` counts it as new: it adds an entry with the clock's time that says of the
-/// content what the key's entry says, with the same size and metadata. Returns whether the key has an entry; if it has
-/// none, nothing changes. The content isn't asked for. The line isn't synced: a loss of power may leave the old entry.
+/// Marks a key as used now, so that `prune` counts it as new: it adds a copy of the key's entry with the clock's time.
+/// Returns whether the key has an entry; if it has none, nothing changes. The content isn't asked for. The line isn't
+/// synced: a loss of power may leave the old entry.
 ///
-/// If the key is written by somebody else between the lookup and the new entry, that one hides what was written.
+/// If somebody else writes or removes the key between the lookup and the new entry, that one hides it.
 ///
 /// A line of the key's bucket with a right digest that this crate can't read is odd: it may be a newer entry of the key, which
 /// another reader finds. So a key whose bucket has such a line isn't touched: the call ends with an `IoError` of `Unsupported`,

@@ -13,7 +13,7 @@ rewritten old new =
 
 -- the bytes that a loss leaves
 pub record LossRows : Type 0 where
-  -- a durable put keeps its bytes, whatever the tail
+  -- a durable put keeps its bytes for any tail
   pub durable : bytes_left (synced (codes "one")) (codes "one") (codes "zz") ≡ codes "one"
   -- a put that isn't durable keeps none
   pub not_durable : bytes_left unsynced (codes "one") (codes "zz") ≡ codes "zz"
@@ -22,7 +22,7 @@ pub record LossRows : Type 0 where
       bytes_left (rewritten (codes "+a+") (codes "+a++b")) (codes "+a++b") (codes "xxxxx")
       ≡ codes "+a+xxxxx"
 
--- a content that was put is gone if its folder wasn't synced and the loss undoes its name
+-- a content put where none was is gone if its folder wasn't synced and the loss undoes its name
 abbrev pub UndonePutsGo : Type 0
 UndonePutsGo =
     (home : Option Names) (t new : Tree) (fixed : Fixed) (f : PlainTemp) (p : List ℕ)
@@ -32,7 +32,7 @@ UndonePutsGo =
     → loss.undone path ≡ true → stays home path ≡ false
     → lost_at home new (fixed_after fixed t new (Persist f p) Done) loss path ≡ None
 
--- a sync that failed fixes nothing
+-- a failed sync fixes nothing
 abbrev pub FailedSyncsFixNothing : Type 0
 FailedSyncsFixNothing =
     (fixed : Fixed) (t new : Tree) (sync : PlainStep) (fault : Fault) → is_sync sync ≡ true

@@ -34,8 +34,8 @@ const CACHE: &str = "c";
 /// # Errors
 ///
 /// `Count` if a number is out of range. `Quit` if the gate says so, `Failed` if a call fails, `World` if the world
-/// refuses an event, and `Mismatch` if a thread gets other bytes than it put, or a seat doesn't agree with the
-/// world's records: then the fault of the first thread that has one.
+/// refuses an event, and `Mismatch` if a thread gets other bytes than it put or no memory to read or list, or a seat
+/// doesn't agree with the world's records: the fault of the first thread with one.
 pub fn storm<R: Threads + Wait + Clock + AllocGlobal + Sync, G: Gate + Sync>(
     rt: &R,
     threads: u64,

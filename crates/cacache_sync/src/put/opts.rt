@@ -141,8 +141,8 @@ impl WriteOpts {
         opts
     }
 
-    /// With the integrity that the content is to meet. An inserted entry has it as its own, and is a tombstone without
-    /// it.
+    /// With an integrity that must list the content's digest under the algorithm of the options. An inserted entry has
+    /// it as its own; one without is a tombstone.
     pub fn integrity(self, sri: Integrity) -> WriteOpts
         ensures said { result ≡ record self { integrity = Some sri } }
         ensures formed { IsIntegrity sri }
