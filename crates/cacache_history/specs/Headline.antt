@@ -41,8 +41,8 @@ pub record Headline (h : History) : Type 0 where
   pub verified : ReadsAreVerified h
   -- a call that reads does nothing to the value
   pub readers : ReadersDoNothing h
-  -- a commit did nothing, put its content, or put its content and then its entry; an Ok says that
-  -- all of that is there; a removal removed at most its content, and with its key the key's bucket
+  -- a commit did nothing, put or found its content, or then added its entry, too; an Ok says that it
+  -- did all; a removal removed at most its content, and with its key the key's bucket
   pub commits : CommitsAreCases h
   -- the entry that a commit added names a content that is there, unless a step removed it
   pub entries : EntriesNameContents h

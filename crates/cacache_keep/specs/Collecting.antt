@@ -42,7 +42,7 @@ pub record CollectsBy
 abbrev pub tally_of : Collection → Tally
 tally_of c = record { dropped = c.dropped; young = c.young; gone = c.gone }
 
--- what neither an entry nor a root names is removed, if it is old enough; a durable one first syncs the index
+-- exactly what no entry or root names is removed, if it is old enough; a durable one syncs the index first
 abbrev pub CollectsAs :
     Told → Option ℕ → Site → Collection → Option (List LogItem) → Option (List LogItem) → Type 0
 CollectsAs told limit site c old new = CollectsBy told limit site c.kept (tally_of c) old new

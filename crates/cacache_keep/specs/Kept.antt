@@ -92,8 +92,8 @@ CachesAreSwept =
 abbrev pub IsKeyOf : List Found → List ℕ → Type 0
 IsKeyOf entries key = (f : Found) × Contains entries f × (f.key ≡ key)
 
--- These contents were damaged, and are gone; the good ones are left. The keys of these entries lead to
--- nothing, and each other key leads where it led.
+-- these contents were damaged, and are gone; the good ones are left; the keys of these entries lead to
+-- nothing, and each other key leads where it led
 pub record MendsCache
     (site : Site) (home : Names) (t new : Tree)
     (damaged : List (List Hash)) (dangling : List Found) : Type 0 where
@@ -148,7 +148,7 @@ MayCompact cache old new =
     ⊎ ((durable : Bool) × (e : Error) × StopsCompacting durable cache e old new)
 
 -- then each key leads where it led, and each address has the content that it had; and if each thing
--- lies in its place, lookups, reads by key and listings answer as before
+-- lies in its place, lookups, reads by key and listings answer what they might have before
 abbrev pub CompactionsAreUnseen : Type 0
 CompactionsAreUnseen =
     (site : Site) (home : Names) (old new : List LogItem)

@@ -40,8 +40,8 @@ StopsPrunePlan site e old new =
 
 -- ---- a pruning
 
--- The index is listed, and has no odd line. The keys of the entries to drop are looked up, and lead to them. Then they
--- are dropped, the oldest first, unless they are left. Then the cache is collected as it is told
+-- the index is listed, and has no odd line; the keys of the entries to drop lead to them; these are dropped, the
+-- oldest first, or left; then the cache is collected as told
 pub record PrunesCache
     (limits : Limits) (told : Told) (limit : Option ℕ) (site : Site) (entries : List Found)
     (dropped kept : List Weight) (gone left : List Found)

@@ -40,7 +40,7 @@ StandingReads =
     → Called cache (commands.Get key) r old new
     → GivesBytes (HasKey cache key i bytes new) bytes r old new
 
--- Everything is still where it may be. If a put stored, its key leads to its entry and its bytes
+-- everything is still where it may be; if a put stored, its key leads to its entry and its bytes
 -- lie under their integrity; other keys lead where they led, and contents stay, except at the
 -- address of its bytes
 pub record PutStands (cache : List ℕ) (p : Put) (r : Reply) (old new : List LogItem) : Type 0 where

@@ -57,7 +57,7 @@ pub record Copies (m : Machine) (hint : Hint) (from to : List ℕ) : Type 0 wher
   pub plainly : HasNoFresh m → GoesPlainly m hint (steps.Copy from to)
   pub breaking : MayBreak m hint (steps.Copy from to)
 
--- each file is
+-- a file is copied, if numbers tell files apart and the target ends in a name
 abbrev pub CopyAgrees : Type 0
 CopyAgrees =
     (m : Machine) (hint : Hint) (from to : List ℕ) → CanCopy m to → Copies m hint from to

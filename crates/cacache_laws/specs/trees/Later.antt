@@ -78,8 +78,8 @@ ReadsOf cache key i bytes log =
     (r : Reply) (new : List LogItem) → Called cache (commands.Get key) r log new
     → GivesBytes (HasKey cache key i bytes new) bytes r log new
 
--- Everything stands where it may still. The key leads to the entry that it led to, and to the same bytes,
--- or to one of the texts, if that meets the integrity too. A read by the key gives them
+-- everything still stands where it may; the key leads to the entry that it led to, and to the same bytes,
+-- or to one of the texts, if that meets the integrity too; a read by the key gives them
 pub record StaysRead (cache key : List ℕ) (i : List Hash) (bytes : List ℕ)
     (texts : List (List ℕ)) (old new : List LogItem) : Type 0 where
   pub standing : IsStanding cache new

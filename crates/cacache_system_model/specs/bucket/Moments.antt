@@ -112,8 +112,8 @@ pub record HasEntry (start : List ℕ) (first : List Event) (newer : List Entry)
   pub last : (key : List ℕ) (found : Option Found) → answer_to key entry ≡ Some found
       → NoneAnswers key newer → latest key (entries_of bytes) ≡ found
 
--- If a write answered that it wrote an entry's line, who opens the file later reads the entry. The line feed that may
--- close the line can be missing.
+-- if a write answered that it wrote an entry's line, who opens the file later reads the entry; the line feed that may
+-- close the line can be missing
 abbrev pub AnsweredAreRead : Type 0
 AnsweredAreRead =
     (start : List ℕ) (first middle during after : List Event) (process count reader : ℕ)

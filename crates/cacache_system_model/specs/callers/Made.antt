@@ -18,8 +18,8 @@ now_left s records = replayed s (initial s) records
 abbrev pub AreTemps : Option Names → (Names → Bool) → Type 0
 AreTemps home temps = (names : Names) → temps names ≡ true → path_kind home names ≡ Temporary
 
--- The cache on a machine is as a legal history left it, with no call on its way. Temporary files that calls left open
--- may still be there, with any bytes. At most 2^64 calls began.
+-- the cache on a machine is as a legal history left it, with no call on its way; temporary files that calls left open
+-- may still be there, with any bytes; at most 2^64 calls began
 pub record CacheOn (s : Setup) (m : Machine) : Type 0 where
   pub past : List Record
   pub temps : Names → Bool
@@ -44,8 +44,8 @@ system_at s m cache = record {
   begun = (now_left s cache.past).begun;
 }
 
--- The acts have records, one each. With those of the past they are a legal history, which has all that every legal
--- history has. Its last tree mirrors the machine's, and a caller without a call has none there.
+-- the acts have records, one each; with those of the past they are a legal history, with all that each has; its last
+-- tree mirrors the machine's, and a caller without a call has none there
 pub record MakesHistory (s : Setup) (past : List Record) (acts : List Act) (last : SystemState) : Type 0 where
   pub records : List Record
   pub of_acts : AreRecordsOf acts records
