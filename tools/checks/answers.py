@@ -1,9 +1,9 @@
-"""Whether `edits/try` takes answers of the prover for what they are. `SIDE_BY_SIDE` and `UNKNOWN` were recorded, and are cut to the lines that it reads;
-`UNREAD` has the form of such ones."""
-import importlib.machinery
-import importlib.util
+"""Whether `edits/try` takes answers of the prover for what they are. `SIDE_BY_SIDE` and `UNKNOWN` were recorded, and are cut to the lines
+that it reads; `UNREAD` has the form of such ones."""
 import pathlib
 import tempfile
+import types
+import unittest.mock
 
 from edits import TOP, Body, Edit, body_of
 from prover import judged
@@ -13,8 +13,8 @@ POLL = Body("src/writer_core.rt", frozenset({75}), (f"{CORE}::poll", CORE, "writ
 END_WRITE = Body("src/writer_core.rt", frozenset({175}), (f"{CORE}::end_write", CORE, "writer_core"), (167, 177), frozenset())
 WRITE_AGAIN = Body("src/writer_core.rt", frozenset({26}), ("writer_core::write_again", "writer_core"), (23, 31), frozenset())
 
-# Three edits at once: `poll` answers as before, but its proof names a goal that it no longer has; `end_write` is wrong; `write_again` compares the
-# other way round, and is proved.
+# Three edits at once: `poll` answers as before, but its proof names a goal that it no longer has; `end_write` is wrong; `write_again`
+# compares the other way round, and is proved.
 SIDE_BY_SIDE = """\
 ./proofs/writer_core/WriterCore/poll/Answers.antt:4:27: error: `returns-clause-seen`: `goal.returns-clause-seen`: module `Rattle.cacache_polled.proofs.writer_core.WriterCore.poll.Goals`
   has no `returns-clause-seen` that can be named from here
@@ -67,10 +67,12 @@ ANSWERS = [
 ]
 
 # Impls with the names by which the prover knows their functions.
-IMPLS = [("impl Drop for Plain", "fn drop(self)", "kinds::Plain::drop"), ("impl<T: Drop> Drop for Probe<T>", "fn drop(self)", "kinds::Probe::drop"),
+IMPLS = [("impl Drop for Plain", "fn drop(self)", "kinds::Plain::drop"),
+         ("impl<T: Drop> Drop for Probe<T>", "fn drop(self)", "kinds::Probe::drop"),
          ("impl From<AllocError> for Error", "fn from(error: AllocError) -> Error", "kinds::ErrorFromAllocError::from"),
          ("impl<T: Drop> From<AllocFailed<T>> for Error", "fn from(error: AllocFailed<T>) -> Error", "kinds::ErrorFromAllocFailed::from"),
-         ("impl fmt::Display for Text", "fn fmt(&self)", "kinds::TextDisplay::fmt"), ("impl<T: Drop> Probe<T>", "pub fn new() -> Probe<T>", "kinds::Probe::new")]
+         ("impl fmt::Display for Text", "fn fmt(&self)", "kinds::TextDisplay::fmt"),
+         ("impl<T: Drop> Probe<T>", "pub fn new() -> Probe<T>", "kinds::Probe::new")]
 
 
 def wrong_answers():
@@ -94,29 +96,15 @@ def wrong_names():
                 yield f"edits/try: {name}: {body}"
 
 
-class Stand:
-    """An edit in the place of that of a trial."""
-
-    def __init__(self, file, body):
-        self.file, self.body, self.leant, self.verdict = file, body, False, None
-
-    def make(self):
-        return True
-
-    def settle(self, refused, said):
-        self.verdict = refused
-
-
 def program(path):
     """A program of the tools as a module."""
-    loader = importlib.machinery.SourceFileLoader(pathlib.Path(path).name, str(TOP / "tools" / path))
-    module = importlib.util.module_from_spec(importlib.util.spec_from_loader(loader.name, loader))
-    loader.exec_module(module)
+    module = types.ModuleType(path)
+    exec(compile((TOP / "tools" / path).read_text(), path, "exec"), module.__dict__)
     return module
 
 
 def wrong_rounds():
-    """Rounds of edits of which some can't be read, or have a function that the prover doesn't know, where the others don't get their verdicts."""
+    """Rounds of edits of which some can't be read, or have a function unknown to the prover, where the others don't get their verdicts."""
     trying = program("edits/try")
     probe = PLAIN._replace(path="src/kinds.rt", names=("kinds::ProbeDrop::drop", "kinds"))
     for what, first, bodies in [("unread", UNREAD, [POLL, END_WRITE, WRITE_AGAIN, probe]), ("unknown", UNKNOWN, [probe, END_WRITE, WRITE_AGAIN])]:
@@ -130,7 +118,7 @@ def wrong_rounds():
 
         trying.checked = checked
         with tempfile.NamedTemporaryFile() as file:
-            trials = [Stand(pathlib.Path(file.name), it) for it in bodies]
+            trials = [unittest.mock.Mock(file=pathlib.Path(file.name), body=it, leant=False) for it in bodies]
             left = trying.side_by_side(None, "cacache_polled", trials)
-        if len(asked) != 2 or [it.body for it in left[:len(faulty)]] != faulty or what == "unknown" and not trials[1].verdict:
+        if len(asked) != 2 or [it.body for it in left[:len(faulty)]] != faulty or what == "unknown" and not trials[1].settle.called:
             yield f"edits/try: a round with edits that are {what} asks {asked}, and leaves {[it.body.names[0] for it in left]}"

@@ -1,13 +1,13 @@
 """Whether what documents say of clauses is so, by the pages CLAUSES and LAWS, which `tools/clauses` writes.
 
-It is written as `function`, `function`: `clause`, `clause`. Each of these functions must have each of the clauses, or a field of a record that one
-of its clauses states. `A::{b, c}` stands for `A::b` and `A::c`, and `b` for each `A::b`.
+It is written as `function`, `function`: `clause`, `clause`. Each of these functions must have each of the clauses, or a field of a record
+that one of its clauses states. `A::{b, c}` stands for `A::b` and `A::c`, and `b` for each `A::b`.
 """
 import collections
 import functools
 import re
 
-from sources import QUALIFIERS, TOP, VISIBLE, WRITTEN, blocks, body, crates, file_of, files, public_modules, public_paths, source
+from .sources import QUALIFIERS, TOP, VISIBLE, WRITTEN, blocks, body, crates, file_of, files, public_modules, public_paths, source
 
 SPAN = r"`([^`]+)`"
 SPANS = r"`[^`]+`(?:,?\s+(?:and\s+)?`[^`]+`)*"

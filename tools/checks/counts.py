@@ -1,8 +1,9 @@
 """Where the documents state a count, or list what the tree has, and what crates.txt lists: each is compared with the tree."""
+import collections
 import os
 import re
 
-from sources import TOP, crates, files
+from .sources import TOP, crates
 
 NUMBERS = dict(zip("one two three four five six seven eight nine ten eleven twelve thirteen fourteen fifteen sixteen seventeen "
                    "eighteen nineteen twenty".split(), range(1, 21)))
@@ -13,14 +14,9 @@ def number(word):
     return int(word.replace(",", "")) if word[0].isdigit() else NUMBERS.get(word.lower())
 
 
-def read(name):
-    """The text of a file of the repository."""
-    return (TOP / name).read_text()
-
-
 def told(name, form):
     """What a file has in the place of the group of a form, which must stand there."""
-    found = re.search(form, read(name))
+    found = re.search(form, (TOP / name).read_text())
     if not found:
         raise LookupError(f"{name}: nothing like {form}")
     return found[1]
@@ -35,9 +31,9 @@ def table_below(name, head):
 def compared(name, what, stated, there):
     """What a document says too much or too little of."""
     stated, there = list(stated), list(there)
-    wrong = [f"{name}: {what}: {it} is missing" for it in there if it not in stated]
-    wrong += [f"{name}: {what}: {it} isn't there" for it in stated if it not in there]
-    return wrong + [f"{name}: {what}: {it} twice" for it in set(stated) if stated.count(it) > 1]
+    return [*(f"{name}: {what}: {it} is missing" for it in there if it not in stated),
+            *(f"{name}: {what}: {it} isn't there" for it in stated if it not in there),
+            *(f"{name}: {what}: {it} twice" for it in set(stated) if stated.count(it) > 1)]
 
 
 def crate_tables():
@@ -60,17 +56,13 @@ def help_lines(file):
     return told(f"crates/cacache_program/src/{file}", r'(?s)HELP: &str =\s*"[^\n]*\n(.*?)";')
 
 
-def helped(file):
-    """The words of a program with their arguments, as its help has them, but for those that stand before others."""
-    for cell in re.findall(r"(?m)^  (\S.*?)  ", help_lines(file)):
-        yield from (it for it in cell.split(", ") if it != "--why")
-
-
 def words():
     """The words of the two programs, against their help."""
     cells = table_below("docs/PROGRAMS.md", "The program `cacache` has these words:")
     stated = [it for cell in cells for it in re.findall("`([^`]+)`", cell)]
-    wrong = compared("docs/PROGRAMS.md", "words of cacache", stated, helped("about.rt"))
+    # with their arguments, but for those that stand before others
+    uses = [it for cell in re.findall(r"(?m)^  (\S.*?)  ", help_lines("about.rt")) for it in cell.split(", ") if it != "--why"]
+    wrong = compared("docs/PROGRAMS.md", "words of cacache", stated, uses)
     shown = told("docs/PROGRAMS.md", r"(?s)For a cache that wasn't cleared.*?\n\n(.*?)\n\n")
     names = list(dict.fromkeys(re.findall(r"(?m)^  ([a-z][\w-]*) ", help_lines("keep/about.rt"))))
     return wrong + compared("docs/PROGRAMS.md", "words of cacache-keep", re.findall(r"(?m)^    cacache-keep ([\w-]+)", shown), names)
@@ -81,33 +73,31 @@ def documents():
     there = [str(it.relative_to(TOP)) for it in TOP.glob("docs/*.md")]
     how_to = [str(it.relative_to(TOP)) for it in TOP.glob("docs/how-to/*.md")]
     main = [it for it in there if it.split("/")[1][0].isupper()]
-    wrong = []
     for name, head, wanted in [("README.md", "| Question | Document |", main), ("CONTRIBUTING.md", "| To | Page |", how_to),
                                ("CONTRIBUTING.md", "| Fact | Document |", {*there} - {*main})]:
         links = re.findall(r"\]\((docs/[\w./-]+)\)", told(name, rf"(?s){re.escape(head)}(.*?)(?:\n\n|\Z)"))
-        wrong += compared(name, "documents", links, wanted)
-    return wrong
+        yield from compared(name, "documents", links, wanted)
 
 
 def rows():
     """The numbers of rows that the page of limits states, those of one file added up, against what `all_rows` prints of it."""
-    text, stated = " ".join(read("docs/LIMITS.md").split()), {}
+    text, stated = " ".join((TOP / "docs/LIMITS.md").read_text().split()), collections.Counter()
     for count, name in re.findall(r"by ([\d,]+) rows[^(]*\(`(\w+)\.rows`", text):
-        stated[name] = stated.get(name, 0) + number(count)
+        stated[name] += number(count)
     for name, count in stated.items():
         there = told("crates/all_rows/stdout", rf"(?ms)^== {name}$.*?^all: (\d+) rows hold$")
         if count != int(there):
             yield f"docs/LIMITS.md: {count} rows of {name}, and there are {there}"
 
 
-def lists(name):
+def lists():
     """Each text that begins with a number, as `Five programs .. :`, against the list that follows, or the names behind the colon."""
-    beginning = r"(?m)^(?:- )?([A-Z]\w+) (\w+)[^:\n]*:"
-    for it in re.finditer(rf"{beginning}(?=(.*(?:\n(?!- ).+)*)((?:\n\n?- (?:.|\n(?!\n|#))*)*))", read(name)):
-        if it[1].lower() in NUMBERS and (it[3].strip() or it[4]):
-            there = len(re.findall(r"`\w+`", it[3])) if it[3].strip() else len(re.findall(r"(?m)^- ", it[4]))
-            if there and there != number(it[1]):
-                yield f"{name}: {it[1]} {it[2]}, and there are {there}"
+    form = r"(?m)^(?:- )?([A-Z]\w+) (\w+)[^:\n]*:(?=(.*(?:\n(?!- ).+)*)((?:\n\n?- (?:.|\n(?!\n|#))*)*))"
+    names = ("README.md", "CONTRIBUTING.md", "CHANGELOG.md")
+    for name, it in ((name, it) for name in names for it in re.finditer(form, (TOP / name).read_text())):
+        there = len(re.findall(r"`\w+`", it[3]) if it[3].strip() else re.findall(r"(?m)^- ", it[4]))
+        if there and number(it[1]) not in (None, there):
+            yield f"{name}: {it[1]} {it[2]}, and there are {there}"
 
 
 def variants(file, kind, form):
@@ -127,7 +117,7 @@ def stated():
             ("docs/ARCHITECTURE.md", r"at once: (\w+) \*\*states\*\*", states),
             ("docs/promises-model.md", r"the table of the (\w+) steps", steps),
             ("docs/DEFINITIONS.md", r"the table of the (\w+) steps", steps)]:
-        found = re.search(form, " ".join(read(name).split()))
+        found = re.search(form, " ".join((TOP / name).read_text().split()))
         if not found or number(found[1]) != there:
             yield f"{name}: {found[0] if found else f'nothing like {form}'}, and there are {there}"
 
@@ -139,32 +129,19 @@ def tools():
     return compared("CONTRIBUTING.md", "tools", stated, there)
 
 
-def naming(crate):
-    """The text of a crate's code, definitions and proofs, without comments."""
-    texts = []
-    for part in ("src", "specs", "proofs"):
-        for file in sorted((TOP / "crates" / crate / part).rglob("*.*t*")):
-            texts.append(re.sub(r"(?m)(?:^|\s)(?://|--).*$", "", file.read_text()))
-    return "\n".join(texts)
-
-
 def libraries():
     """What crates.txt lists that the crate itself doesn't name."""
     for crate, below in crates().items():
-        text = naming(crate)
+        sources = (it for part in ("src", "specs", "proofs") for it in (TOP / "crates" / crate / part).rglob("*.*t*"))
+        text = "\n".join(re.sub(r"(?m)(?:^|\s)(?://|--).*$", "", it.read_text()) for it in sources)  # without comments
         for it in below:
             if not re.search(rf"\bRattle\.{it}\b|(?<![\w:]){it}(?:::|!)|\buse {it}\b", text):
                 yield f"crates.txt: {crate} lists {it}, which it doesn't name"
 
 
-def all_lists():
-    """The lists of the documents that state how long they are."""
-    return (it for name in ("README.md", "CONTRIBUTING.md", "CHANGELOG.md") for it in lists(name))
-
-
 def wrong_counts():
     """All that is wrong."""
-    for check in (crate_tables, libraries, words, documents, tools, rows, all_lists, stated):
+    for check in (crate_tables, libraries, words, documents, tools, rows, lists, stated):
         try:
             yield from check()
         except LookupError as missing:

@@ -2,18 +2,21 @@
 import collections
 import difflib
 import functools
+import itertools
+import os
 import pathlib
 import re
 import sys
 
 sys.path.insert(0, str(pathlib.Path(__file__).resolve().parent.parent / "edits"))
 
-from edits import TOP, crates
+from edits import TOP, begun, crates, ended
 
 ROOTS = ["cacache", "cacache_keep"]  # the crates whose public paths users name
 KINDS = "fn|struct|enum|trait|type|const|static|mod"
 VISIBLE = r"(?:pub(?:\([^)]*\))? )?"
 WRITTEN = ("API.md", "API-inner.md", "CLAUSES.md", "LAWS.md")  # the pages of docs that tools/api and tools/clauses write
+DOCUMENTS = [*(TOP / it for it in ("README.md", "CONTRIBUTING.md", "CHANGELOG.md")), *sorted(TOP.glob("docs/**/*.md"))]
 LAW = r"after_\w+|\w+_(?:laws|cases|rows|losses|results)"  # the name of a law, of which docs/LAWS.md has docs and clauses
 QUALIFIERS = r"(?:(?:const|unsafe) )*"
 SILENT = r"'\w+|(?:\w+ = )?(?:[A-Z]|Self)(?:::\w+)?"  # arguments of a type that say nothing: `'a`, `S`, `S::File`, `Temp = T`
@@ -23,9 +26,19 @@ OPENS, CLOSES = "([{<", ")]}>"
 # An `impl` block: its trait (empty if it is of none), the crate and the name of its type, that type as it is written, and
 # its file with the places where its body begins and ends.
 Block = collections.namedtuple("Block", "trait crate name type file start end")
-# A definition, or a field of a record: its line, the first sentence of the comment above it, the part of its file, whether it is a record, the
-# fields of a record by their names, and what its lines after an arrow begin with, or of a field all that its line names.
+# A definition, or a field of a record: its line, the first sentence of the comment above it, the part of its file, whether it is a record,
+# the fields of a record by their names, and what its lines after an arrow begin with, or of a field all that its line names.
 Definition = collections.namedtuple("Definition", "line comment part is_record fields cites")
+
+
+@functools.cache
+def tree():
+    """The paths of all files and folders of the repository, without the folders that no commit has."""
+    found = []
+    for place, folders, names in os.walk(TOP):
+        folders[:] = [it for it in folders if it not in ("out", "target", ".git", "__pycache__")]
+        found += [os.path.relpath(os.path.join(place, it), TOP) for it in [*folders, *names]]
+    return found
 
 
 @functools.cache
@@ -40,32 +53,27 @@ def files(crate):
     return sorted((TOP / "crates" / crate / "src").rglob("*.rt"))
 
 
-def in_product(file):
-    """Whether a file is one of the product's crates: not of one that shows rows, tests it or uses it."""
-    return file.relative_to(TOP / "crates").parts[0].startswith("cacache")
-
-
 def file_of(crate, module):
     """The file of a module, which is given by the words of its path."""
     src = TOP / "crates" / crate / "src"
     return src.joinpath(*module).with_suffix(".rt") if module else src / "lib.rt"
 
 
-def behind(text, at):
+def behind(text, at, opens=OPENS, closes=CLOSES):
     """The place behind the bracket that closes the one at this place."""
     depth = 0
     for place in range(at, len(text)):
-        depth += (text[place] in OPENS) - (text[place] in CLOSES)
+        depth += (text[place] in opens) - (text[place] in closes)
         if depth == 0:
             return place + 1
     raise ValueError(f"never closed: {text[at:at + 40]}")
 
 
-def split(text):
+def split(text, opens=OPENS, closes=CLOSES):
     """The parts between the commas that stand in no bracket."""
     parts, depth = [""], 0
     for sign in text:
-        depth += (sign in OPENS) - (sign in CLOSES)
+        depth += (sign in opens) - (sign in closes)
         if sign == "," and depth == 0:
             parts.append("")
         else:
@@ -144,39 +152,28 @@ def public_paths():
             for name, it in items if isinstance(it, tuple)]
 
 
-def block_of(crate, file, head, span):
-    """The block with this head, from the word behind `impl` on."""
-    trait, _, kind = head.rpartition(" for ")
+def block_of(crate, file, found):
+    """The block of a crate's file whose word `impl` was found there."""
+    head = found[1].strip()
+    trait, _, kind = (head[behind(head, 0):].strip() if head[0] == "<" else head).rpartition(" for ")
     named = re.match(r"[\w:]+", kind)  # nothing, such as `()`, has no name
     name = named[0].split("::")[-1] if named else kind.strip()
     paths = (path for path, known in uses(source(file), VISIBLE) if known == name)
     owner = next((path[0] for path in paths if (TOP / "crates" / path[0]).is_dir()), crate)
-    return Block(trait.strip(), owner, name, kind.strip(), file, *span)
+    return Block(trait.strip(), owner, name, kind.strip(), file, *body(source(file), found.end()))
 
 
 @functools.cache
 def blocks():
     """All `impl` blocks of the crates."""
-    found = []
-    for crate in crates():
-        for file in files(crate):
-            text = source(file)
-            for block in re.finditer(r"(?m)^impl\b([^{]*)", text):
-                head = block[1].strip()
-                head = head[behind(head, 0):].strip() if head[0] == "<" else head
-                found.append(block_of(crate, file, head, body(text, block.end())))
-    return found
+    places = ((crate, file) for crate in crates() for file in files(crate))
+    return [block_of(*place, it) for place in places for it in re.finditer(r"(?m)^impl\b([^{]*)", source(place[1]))]
 
 
 def docs_of(text, at):
     """The lines of the docs above the declaration that begins at this place."""
-    lines = []
-    for line in reversed(text[:at].splitlines()):
-        if line.strip().startswith("///"):
-            lines.insert(0, line.strip()[3:].removeprefix(" ").rstrip())
-        elif not line.strip().startswith("#["):
-            break
-    return lines
+    above = itertools.takewhile(lambda it: it.startswith(("///", "#[")), map(str.strip, reversed(text[:at].splitlines())))
+    return [it[3:].removeprefix(" ").rstrip() for it in above if it[0] == "/"][::-1]
 
 
 def short(text):
@@ -187,8 +184,7 @@ def short(text):
     if not found:
         return text
     after = behind(text, found.end(1))
-    kept = [short(it) for it in split(text[found.end():after - 1])
-            if not re.fullmatch(SILENT, it) or found[1] in SPEAKING and it[0] != "'"]
+    kept = [short(it) for it in split(text[found.end():after - 1]) if not re.fullmatch(SILENT, it) or found[1] in SPEAKING and it[0] != "'"]
     return text[:found.end(1)] + (f"<{', '.join(kept)}>" if kept else "") + short(text[after:])
 
 
@@ -217,16 +213,6 @@ def signature(text, at, name):
     return f"{name}({', '.join(arguments)})" + (f" → {short(result)}" if result else "")
 
 
-def braced(text, at):
-    """The place behind the brace that closes the one at this place."""
-    depth = 0
-    for it in re.compile(r"[{}]").finditer(text, at):
-        depth += 1 if it[0] == "{" else -1
-        if depth == 0:
-            return it.end()
-    raise ValueError(f"never closed: {text[at:at + 40]}")
-
-
 @functools.cache
 def uncommented(text):
     """A text with spaces in the place of comments that are no docs."""
@@ -239,7 +225,7 @@ def clauses(text, at):
     *_, place = head(text, at)
     clause, found = re.compile(r"\s*((?:requires|ensures)\*?(?: \w+)?) (?=\{)"), []
     while start := clause.match(text, place):
-        place = braced(text, start.end())
+        place = behind(text, start.end(), "{", "}")
         found.append((start.start(1), start[1], " ".join(text[start.end():place].split())))
     return found
 
@@ -280,7 +266,10 @@ def definitions():
 
 
 def differences(page, text, tool):
-    """How a page differs from what it should say."""
+    """Writes a page, or with `--check` only says how it differs from what it should say."""
+    text = text.replace("→", "->")
+    if "--check" not in sys.argv[1:]:
+        page.write_text(text)
     there = page.read_text() if page.is_file() else ""
     moved = difflib.unified_diff(there.splitlines(), text.splitlines(), f"docs/{page.name}", f"what {tool} writes", n=0, lineterm="")
     return [line[:140] for line in moved]

@@ -34,8 +34,3 @@ def unfit():
         if count != 1 or it.old == it.new or not (TOP / "fuzz" / it.rows).is_file():
             yield f"fuzz/faults.txt: in {it.file} stands {count} times: {it.old}"
 
-
-def plant(tree, fault):
-    """Puts a wrong body into a copy of the repository."""
-    file = tree / fault.file
-    file.write_text(file.read_text().replace(fault.old, fault.new))

@@ -1,12 +1,25 @@
-"""What `check` and `try` share: the edits and the texts that they make."""
+"""What `check` and `try` share: the edits and the texts that they make; and what all tools do: read crates.txt, begin and end."""
 import functools
-import hashlib
 import pathlib
 import re
+import sys
 import typing
 
 TOP = pathlib.Path(__file__).resolve().parent.parent.parent
 TRIED = TOP / "tools/edits/TRIED"
+
+
+def begun(text, fits=True):
+    """Begins a tool: shows its help and ends it if that is asked for, or if the words that it is given don't fit."""
+    if "--help" in sys.argv[1:] or not fits:
+        print(text)
+        sys.exit(0 if "--help" in sys.argv[1:] else 2)
+
+
+def ended(faults, *said):
+    """Ends a tool that looked for faults: prints each, and what else is to be said."""
+    print("".join(f"{it}\n" for it in (*faults, *said)), end="")
+    sys.exit(1 if faults else 0)
 
 
 class Edit(typing.NamedTuple):
@@ -21,8 +34,8 @@ class Edit(typing.NamedTuple):
 
 
 def edits_in(place):
-    """The edits of a file: one of the gate is one edit, and one of this folder has those of a crate, each after a line `edit: NAME`. What stands
-    before the first of these lines is an edit without a name, which can't be made."""
+    """The edits of a file: one of the gate is one edit, and one of this folder has those of a crate, each after a line `edit: NAME`. What
+    stands before the first of these lines is an edit without a name, which can't be made."""
     if place.suffix == ".edit":
         return [Edit(place.stem, place, tuple(place.read_text().splitlines()))]
     parts = re.split(r"(?m)^edit: (.*)\n", "edit: \n" + place.read_text())
@@ -30,17 +43,12 @@ def edits_in(place):
     return edits if edits[0].lines else edits[1:]
 
 
-def misplaced(edits):
-    """The edits whose names stand twice in their file, or after a greater one."""
-    return [edit for before, edit in zip(edits, edits[1:]) if before.place == edit.place and before.name >= edit.name]
-
-
 def fields_of(edit):
     """The file that an edit changes, its pairs of old and new text, and the lines that are neither."""
     path, pairs, others = "", [], []
     for line in edit.lines:
         word, _, text = line.partition(":")
-        text = text[1:] if text.startswith(" ") else text
+        text = text.removeprefix(" ")
         if word == "file":
             path = text.strip()
         elif word == "old":
@@ -79,25 +87,15 @@ def all_of(crate):
 @functools.cache
 def crates():
     """The crates of crates.txt, each with what it lists, in the file's order."""
-    found = {}
-    for line in (TOP / "crates.txt").read_text().splitlines():
-        name, colon, words = line.split("#")[0].partition(":")
-        if colon:
-            found[name.split()[0]] = words.split()
-    return found
-
-
-def strays():
-    """The edits that are in no file of a crate that crates.txt lists."""
-    places = [*TOP.glob("crates/*/must-fail/*.edit"), *TOP.glob("tools/edits/*.edits"), *TOP.glob("tools/edits/*/*.edit")]
-    known = {edit.place for crate in crates() for edit in all_of(crate)}
-    return [edit for place in sorted(set(places) - known) for edit in edits_in(place)]
+    lines = (it.split("#")[0].partition(":") for it in (TOP / "crates.txt").read_text().splitlines())
+    return {name.split()[0]: words.split() for name, colon, words in lines if colon}
 
 
 def sum_of(crate):
     """A hash over what the edits of a crate were tried on: its code, definitions and proofs, and the edits."""
     folder = TOP / "crates" / crate
     files = [it for part in ("src", "specs", "proofs") for it in (folder / part).rglob("*") if it.is_file()]
+    import hashlib  # here, since the memory that it takes would count as that of each program that tools/speed starts
     digest = hashlib.sha256()
     for file in sorted(files) + sorted({edit.place for edit in all_of(crate)}):
         digest.update(f"{file.relative_to(TOP)}\0{file.stat().st_size}\0".encode() + file.read_bytes())
@@ -117,8 +115,8 @@ def note(crate, count, commit):
 
 
 class Body(typing.NamedTuple):
-    """What an edit changes: the file below the crate's folder, the lines with its texts, the names by which a check may know the function, the
-    likeliest first, the first and the last line of that function, and the clauses that a written answer shows. The last name is the file's module."""
+    """What an edit changes: the file below the crate's folder, the lines with its texts, the names by which a check may know the function,
+    the likeliest first, that function's first and last line, and the clauses that a written answer shows. The last name is the module."""
 
     path: str
     lines: frozenset

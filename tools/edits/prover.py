@@ -35,11 +35,8 @@ def over_libraries(tree, crate):
     def place(name):
         return tree / "crates" / name / "out/rlib" if name in listed else KIT / "rlibs"
 
-    words = []
-    for name in ["std", *listed[crate]]:
-        words += ["--extern", f"{name}={place(name)}/{name}.rlib"]
-    for folder in [KIT / "rlibs", *map(place, below)]:
-        words += ["-L", f"dependency={folder}"]
+    words = [word for name in ["std", *listed[crate]] for word in ("--extern", f"{name}={place(name)}/{name}.rlib")]
+    words += [word for folder in [KIT / "rlibs", *map(place, below)] for word in ("-L", f"dependency={folder}")]
     words += ["--antt-project", KIT / "rattle/logic/antt-project.json", "--logic-built", KIT / "logic_built"]
     return [*words, "--links", f"{crate}=", "--jobs", JOBS]
 
@@ -47,9 +44,9 @@ def over_libraries(tree, crate):
 def prover(tree, crate, mode, *words):
     """The prover's answer on a crate of a tree, over the libraries that stand built: its status and its lines."""
     command = [KIT / "bin/rattle", mode, "--crate-name", crate, root_of(tree, crate), *over_libraries(tree, crate), *words]
-    how = {"cwd": tree / "crates" / crate, "stdin": subprocess.DEVNULL, "stdout": subprocess.PIPE, "stderr": subprocess.STDOUT}
+    how = {"stdin": subprocess.DEVNULL, "stdout": subprocess.PIPE, "stderr": subprocess.STDOUT, "text": True, "errors": "replace"}
     try:
-        ran = subprocess.run(command, text=True, errors="replace", timeout=LIMIT, **how)
+        ran = subprocess.run(command, cwd=tree / "crates" / crate, timeout=LIMIT, **how)
     except subprocess.TimeoutExpired:
         return None, ["no answer in time"]
     lines = ran.stdout.rstrip("\n").split("\n")
@@ -86,19 +83,8 @@ def unknown(lines):
     return next((it[1] for it in said if it), None)
 
 
-def unwrapped(lines):
-    """The lines, each with those that go on with it, which two spaces begin."""
-    found = []
-    for line in lines:
-        if line.startswith("  ") and found:
-            found[-1] += line[1:]
-        else:
-            found.append(line)
-    return found
-
-
 def unread(lines, path, only=None):
-    """The first line that says that a text couldn't be read: then no contract was tried. With `only`, of an error in these lines of the file."""
+    """The first line that says that a text couldn't be read: then no contract was tried. With `only`, of an error in these lines."""
     for line in lines:
         at = re.match(r"(?:\./)?(\S+?):(\d+):\d+: error(?:\[[\w-]+\])?: (?:(`[^`]*`): )?(.*)", line)
         if not at or not (at[1] == path and int(at[2]) in only if only else at[1].startswith((path, "src/", "specs/"))):
@@ -115,13 +101,10 @@ def has_verdict(lines):
 
 
 def fallen(lines, function):
-    """What the prover says of a function whose own goals aren't all proved; None where they are, or where that may only rest on another function."""
-    own = r"not proved(?!; it calls)|no proof: .*`search` did not prove"
-    for line in lines:
-        at = re.match(rf"fn \w+::(\S+): (?:{own if function else 'not proved|no proof: .*`search` did not prove'})", line)
-        if at and function in (None, at[1]):
-            return line
-    return None
+    """What the prover says of a function whose own goals aren't all proved; None if they are, or if that may only rest on another one."""
+    own = "(?!; it calls)" if function else ""
+    said = (re.match(rf"fn \w+::(\S+): (?:not proved{own}|no proof: .*`search` did not prove)", it) for it in lines)
+    return next((it.string for it in said if it and function in (None, it[1])), None)
 
 
 def leans(lines, function):
@@ -131,18 +114,15 @@ def leans(lines, function):
 
 def told_of(lines, body, is_alone):
     """The errors and notes on an edit: all if it was made alone, and else those on its function and of that function's proof files."""
-    own, told = f"proofs/{body.names[0].replace('::', '/')}/", []
-    for line in lines:
-        at = re.match(r"(?:note: )?(?:\./)?(\S+?):(\d+):\d+:", line)
-        if at and (": error" in line or line.startswith("note: ") and "not proved" in line):
-            if is_alone or at[1].startswith(own) or at[1] == body.path and body.span[0] <= int(at[2]) <= body.span[1]:
-                told.append(line)
-    return told
+    own, (first, last) = f"proofs/{body.names[0].replace('::', '/')}/", body.span
+    told = [it for it in lines if ": error" in it or it.startswith("note: ") and "not proved" in it]
+    said = (re.match(r"(?:note: )?(?:\./)?(\S+?):(\d+):\d+:", it) for it in told)
+    return [it.string for it in said if it and (is_alone or it[1].startswith(own) or it[1] == body.path and first <= int(it[2]) <= last)]
 
 
 def says_little(told, body):
-    """The line by which a proof file names what an edit took away, if nothing that was told speaks against the edit beside it. A goal of a clause that
-    the written answers show is open without them, so it speaks against the edit only if the prover found values at which it is false."""
+    """The line by which a proof file names what an edit took away, if nothing else that was told speaks against the edit. A goal of a
+    clause that the written answers show is open without them, so it counts only if the prover found values at which it is false."""
     missed = [it for it in told if NAMES.match(it)]
     for line in told:
         goal = re.search(r"it is not proved .*\(`([^`]*)`\)", line)
@@ -152,8 +132,9 @@ def says_little(told, body):
 
 
 def judged(status, lines, body, is_alone=True):
-    """Whether the answer on an edit is a refusal by the prover, and what to say of it. If it wasn't made alone, the answer is about its function."""
-    lines, function = unwrapped(lines), None if is_alone else body.names[0]
+    """Whether the answer on an edit is the prover's refusal, and what to say. If it wasn't made alone, the answer is about its function."""
+    lines = "\n".join(lines).replace("\n  ", " ").split("\n")  # two spaces begin a line that goes on with the one above
+    function = None if is_alone else body.names[0]
     if status == 0:
         return False, "NOT REFUSED"
     ring = next((it for it in lines if "is in a cycle of calls" in it), None)
@@ -168,7 +149,7 @@ def judged(status, lines, body, is_alone=True):
         return False, "NO VERDICT: the prover could not tell"
     fell = fallen(lines, function)
     if not fell:
-        return False, f"NOT TRIED: no goal was refused: {next((it for it in lines if it.startswith('fn ') and ': proved' not in it), '')[:160]}"
+        return False, f"NOT TRIED: no goal is refused: {next((it for it in lines if it[:3] == 'fn ' and ': proved' not in it), '')[:160]}"
     told = told_of(lines, body, is_alone)
     little = says_little(told, body)
     if ": not proved" in fell and little:

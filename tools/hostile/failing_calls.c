@@ -135,25 +135,19 @@ static int opened(int fd) {
     return fd;
 }
 
-int open(const char *path, int flags, ...) {
-    va_list more;
-    va_start(more, flags);
-    mode_t mode = va_arg(more, mode_t);
-    va_end(more);
-    int wrong = due("open", path, -1);
-    if (wrong == ERRNO) return -1;
-    MADE(int, opened(REAL(open)(path, flags, mode)));
-}
+#define OPENED(name, parameters, words, path, fd)                  \
+    int name parameters {                                         \
+        va_list more;                                             \
+        va_start(more, flags);                                    \
+        mode_t mode = va_arg(more, mode_t);                       \
+        va_end(more);                                             \
+        int wrong = due(#name, path, fd);                         \
+        if (wrong == ERRNO) return -1;                            \
+        MADE(int, opened(REAL(name) words));                      \
+    }
 
-int openat(int fd, const char *path, int flags, ...) {
-    va_list more;
-    va_start(more, flags);
-    mode_t mode = va_arg(more, mode_t);
-    va_end(more);
-    int wrong = due("openat", path, fd);
-    if (wrong == ERRNO) return -1;
-    MADE(int, opened(REAL(openat)(fd, path, flags, mode)));
-}
+OPENED(open, (const char *path, int flags, ...), (path, flags, mode), path, -1)
+OPENED(openat, (int fd, const char *path, int flags, ...), (fd, path, flags, mode), path, fd)
 
 /* Of a close that fails the file is closed all the same. */
 int close(int fd) {

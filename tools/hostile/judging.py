@@ -58,15 +58,11 @@ def files(word, before, ran, how, gone):
     emptied = {f"c/{it}" for path in [*word.removes, *taken] for it in list(pathlib.PurePath(path).parents)[:2]} if word.empties else ()
     for path in sorted(before):
         what, now = before[path], tree.get(path)
-        if what == now or path in word.own or kind == "clear" and now is None and at_or_below(path, "c"):
-            continue
-        if "prune" in word.does and now is None and path in [f"c/{bucket_path(it)}" for it in word.made]:
-            continue  # without room for a tombstone
-        if path in emptied and not any(it.startswith(f"{path}/") for it in tree):
-            continue
-        if path.startswith("c/content-v2/") and now is None and path[2:] in [*word.removes, *taken]:
-            continue
-        if "sweep" in word.does and path.startswith("c/tmp/.tmp") and now is None:
+        removed = now is None and (
+            kind == "clear" and at_or_below(path, "c") or "sweep" in word.does and path.startswith("c/tmp/.tmp")
+            or "prune" in word.does and path in [f"c/{bucket_path(it)}" for it in word.made]  # without room for a tombstone
+            or path.startswith("c/content-v2/") and path[2:] in [*word.removes, *taken])
+        if what == now or path in word.own or removed or path in emptied and not any(it.startswith(f"{path}/") for it in tree):
             continue
         if path.startswith("c/index-v5/") and isinstance(now, tuple):
             if "compact" in word.does or kind in ("remove", "repair", "prune", "touch") and now[1].startswith(what[1]):

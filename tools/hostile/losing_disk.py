@@ -5,6 +5,8 @@ it keeps lands in the order of the writes. A disk may do so: its cache holds wri
 A block of 4 KiB is kept whole or not at all. Where single ones were torn at 512 bytes, ext4 couldn't always be mounted: a torn block of
 its journal is "corrupt", and a torn superblock has an "invalid checksum".
 """
+import contextlib
+import socket
 import struct
 import threading
 
@@ -43,9 +45,6 @@ class LosingDisk:
             disk.flush() if it is None else disk.write(*it)
         return disk
 
-    def read(self, at, length):
-        return bytes(self.now[at : at + length])
-
     def write(self, at, data):
         self.now[at : at + len(data)] = data
         self.waiting.append((at, bytes(data)))
@@ -62,7 +61,8 @@ class LosingDisk:
         share, counts = chance.choice(SHARES), {"kept": 0, "torn": 0, "lost": 0}
         for at, data in self.waiting:
             blocks = range(0, len(data), BLOCK)
-            stays = staying(blocks, share, chance)
+            some = chance.random() < TORN
+            stays = [it for it in blocks if chance.random() < 0.5] if some else blocks if chance.random() < share else []
             for it in stays:
                 block = data[it : it + BLOCK]
                 self.kept[at + it : at + it + len(block)] = block
@@ -83,48 +83,36 @@ class LosingDisk:
                 self.cut.set()
                 raise Cut
 
-    def serve(self, socket):
+    def serve(self, link):
         """Answers the requests on this socket until the power goes or the other side hangs up."""
-        try:
-            socket.sendall(GREETING + struct.pack(">QI124x", len(self.now), HAS_FLAGS | SEND_FLUSH))
-            while self.answer(socket):
+        with contextlib.suppress(Cut, ConnectionError):
+            link.sendall(GREETING + struct.pack(">QI124x", len(self.now), HAS_FLAGS | SEND_FLUSH))
+            while self.answer(link):
                 pass
-        except (Cut, ConnectionError):
-            pass
 
-    def answer(self, socket):
+    def answer(self, link):
         """Answers one request, and whether there may be a further one."""
-        magic, _, kind, handle, at, length = REQUEST.unpack(received(socket, REQUEST.size))
+        magic, _, kind, handle, at, length = REQUEST.unpack(received(link, REQUEST.size))
         if magic != REQUEST_MAGIC or kind == DISCONNECT:
             return False
         error, data = 0, b""
         if kind == READ:
-            data = self.read(at, length)
+            data = bytes(self.now[at : at + length])
         elif kind == WRITE:
-            self.write(at, received(socket, length))
+            self.write(at, received(link, length))
             self.spend()
         elif kind == FLUSH:
             self.spend()
             self.flush()
         else:
             error = INVALID
-        socket.sendall(REPLY.pack(REPLY_MAGIC, error, handle) + data)
+        link.sendall(REPLY.pack(REPLY_MAGIC, error, handle) + data)
         return True
 
 
-def staying(blocks, share, chance):
-    """Which blocks of a write stay after a loss of power."""
-    if chance.random() < TORN:
-        return [it for it in blocks if chance.random() < 0.5]
-    return list(blocks) if chance.random() < share else []
-
-
-def received(socket, length):
+def received(link, length):
     """So many bytes of a socket."""
-    data = bytearray()
-    while len(data) < length:
-        piece = socket.recv(length - len(data))
-        if not piece:
-            raise Cut
-        data += piece
+    data = link.recv(length, socket.MSG_WAITALL)
+    if len(data) < length:
+        raise Cut
     return data

@@ -5,22 +5,23 @@ The power goes at a random write or flush, or at the end. Then the machine start
 It starts too on what would have been left at a few earlier moments: a beginning of the writes and flushes, of which a loss takes as ever.
 
 What may be there: of each content and each key the state of its last durable call that had answered by then, or any that it had or could
-come to have since. A durable put fixes its content and its key's entry, a durable put by hash its content, and a durable compaction the entry
-that each key has, or its lack. What a plain put, a removal, a damage, a collection or a repair did since may be lost or not; a compaction
-that isn't durable may take a key's lines, unless the last of them is durable. So a durable content that was removed and put again plainly may be
-absent.
+come to have since. A durable put fixes its content and its key's entry, a durable put by hash its content, and a durable compaction the
+entry that each key has, or its lack. What a plain put, a removal, a damage, a collection or a repair did since may be lost or not; a
+compaction that isn't durable may take a key's lines, unless the last of them is durable. So a durable content that was removed and put
+again plainly may be absent.
 """
+import collections
 import random
 import re
 
 from guest import empty_image
 from losing_disk import LosingDisk
-from starting import PATIENCE, Start
+from starting import PATIENCE, VERSIONS, Start
 
 WAYS = ["durable", "durable in pieces", "durable by hash", "plain", "plain in pieces", "plain by hash", "durable over damaged", "damaged",
         "removed", "plain after durable"]
 KEEPS = ["compact durably", "collect", "repair", "sweep", "compact"]
-VERSIONS = 4  # how many numbers have one key
+LOST = "contents lost that had been put"
 ROUNDS, NUMBERS = 3, 10  # of a start, and of each of its two processes in a round
 PART, EARLIER, REQUESTS = 4, 2, 900  # losses of one disk, earlier moments of a loss, and requests before a loss
 
@@ -38,18 +39,17 @@ class State:
         self.content, self.key, self.answered = dict(contents), dict(keys), dict(contents)
         self.closed = set()  # the keys of which the last line is surely durable
 
-    def put(self, number, states, key, fixed, sure):
-        """A content comes to have these states, the last one in the end, and a key this number, if it is put."""
-        may = self.contents.setdefault(number, {"gone"})
-        self.contents[number] = {states[-1]} if fixed and sure else may | {*states}
+    def put(self, number, states, is_put, fixed, sure):
+        """A content comes to have these states, the last one in the end, and a key this number, if that is put."""
+        self.contents[number] = {states[-1]} if fixed and sure else self.contents.get(number, {"gone"}) | {*states}
         self.content[number] = states[-1]
         if sure:
             self.answered[number] = states[-1]
-        if key:
-            may = self.keys.setdefault(number // VERSIONS, {None})
-            self.keys[number // VERSIONS] = {number} if fixed and sure else may | {number}
-            self.key[number // VERSIONS] = number
-            (self.closed.add if fixed and sure else self.closed.discard)(number // VERSIONS)
+        if is_put:
+            key = number // VERSIONS
+            self.keys[key] = {number} if fixed and sure else self.keys.get(key, {None}) | {number}
+            self.key[key] = number
+            (self.closed.add if fixed and sure else self.closed.discard)(key)
 
     def mix(self, number, sure):
         """A number is put in its way; sure: it has answered."""
@@ -97,8 +97,8 @@ def events(lines, noted):
 
 
 def after(contents, keys, told, until):
-    """What may be there where the power went when so many writes and flushes were noted: of what hadn't answered by then anything may
-    have been done."""
+    """What may be there where the power went when so many requests were noted: of what hadn't answered by then anything may have been
+    done."""
     state, begun = State(contents, keys), []
     for at, what, kind, number in told:
         if what == "begin":
@@ -113,14 +113,9 @@ def after(contents, keys, told, until):
 
 def looked(lines):
     """The contents and keys that a look told of."""
-    contents, keys = {}, {}
-    for line in lines:
-        told = re.fullmatch(r"(content|entry) (\d+) (\w+)", line)
-        if told and told[1] == "content":
-            contents[int(told[2])] = told[3]
-        elif told:
-            keys[int(told[2])] = int(told[3]) if told[3].isdigit() else None if told[3] == "none" else told[3]
-    return contents, keys
+    contents, entries = (re.findall(rf"(?m)^{it} (\d+) (\w+)$", "\n".join(lines)) for it in ("content", "entry"))
+    keys = {int(key): int(it) if it.isdigit() else None if it == "none" else it for key, it in entries}
+    return {int(number): it for number, it in contents}, keys
 
 
 def judged(state, contents, keys):
@@ -138,10 +133,7 @@ class Mixes:
 
     def __init__(self, guest, folder, seed):
         self.guest, self.folder, self.seed, self.chance = guest, folder, seed, random.Random(seed)
-        self.wrong, self.failed, self.counts, self.requests = [], [], {}, 0
-
-    def count(self, what, more=1):
-        self.counts[what] = self.counts.get(what, 0) + more
+        self.wrong, self.failed, self.counts = [], [], collections.Counter()
 
     def words(self, first, count):
         """The words of a start, whose numbers begin here: rounds of two processes, each with an upkeep behind it."""
@@ -157,8 +149,7 @@ class Mixes:
         disk.arm(None)
         disk.remember()
         start = Start(self.guest, disk, self.folder, f"tell-look,0,{count}" if count else "", puts)
-        is_on = start.wait(PATIENCE, "begun", "not mounted") and "begun" in start.lines
-        found = looked(start.lines)
+        is_on, found = start.begins(), looked(start.lines)
         if not is_on or len(found[0]) != count or len(found[1]) != count // VERSIONS:
             self.fail(f"{what}: {len(found[0])} of {count} numbers were looked at; the last lines: {start.lines[-5:]}")
             return start, None
@@ -171,10 +162,8 @@ class Mixes:
 
     def judge(self, state, found, what):
         """Counts what a look found, and what of it is wrong."""
-        self.count("disks looked at")
         lost = sum(there != "is" for number, there in found[0].items() if state.answered.get(number) == "is")
-        self.count("contents lost that had been put", lost)
-        self.count("contents and keys looked at", len(found[0]) + len(found[1]))
+        self.counts.update({"disks looked at": 1, LOST: lost, "contents and keys looked at": sum(map(len, found))})
         for it in judged(state, *found):
             self.wrong.append(it)
             print(f"WRONG: {what}: {it}", flush=True)
@@ -188,27 +177,24 @@ class Mixes:
         self.judge(state, found, f"loss {number}")
         disk.arm(self.chance.randrange(REQUESTS))
         start.wait(PATIENCE, "done")
-        died = start.process.poll() is not None
-        start.end()
-        if died or "failed" in start.lines:
+        if start.end():
             self.fail(f"loss {number}: a call or the machine failed; the last lines: {start.lines[-5:]}")
         told = [*events(start.lines, start.noted)]
-        self.count("puts and removals answered", sum(it[1:3] == ("did", "mix") for it in told))
-        self.count("upkeeps answered", sum(it[1:3] == ("did", "keep") for it in told))
+        for what, kind in (("puts and removals", "mix"), ("upkeeps", "keep")):
+            self.counts[f"{what} answered"] += sum(it[1:3] == ("did", kind) for it in told)
         for _ in range(EARLIER):
             moment = self.chance.randrange(start.noted[start.lines.index("begun")], len(disk.log) + 1)
             earlier = disk.beginning(moment)
             self.take(earlier)
             self.look(earlier, first + count, after(*found, told, moment), f"loss {number} at {moment} requests")
         state = after(*found, told, len(disk.log))
-        self.count("writes and flushes", len(disk.log))
+        self.counts["writes and flushes"] += len(disk.log)
         self.take(disk)
         return state
 
     def take(self, disk):
         """Takes the power from a disk."""
-        for name, lost in disk.lose(self.chance).items():
-            self.count(f"writes since the last flush {name}", lost)
+        self.counts.update({f"writes since the last flush {name}": lost for name, lost in disk.lose(self.chance).items()})
 
     def look(self, disk, count, state, what):
         """Starts the machine to look alone."""
@@ -230,7 +216,7 @@ class Mixes:
                 self.look(disk, first, state, f"loss {number}")
         for what, many in self.counts.items():
             print(f"  {many} {what}")
-        lost = self.counts.get("contents lost that had been put", 0)
+        lost = self.counts[LOST]
         print(f"{self.guest.system}, seed {self.seed}: {losses} losses, {len(self.wrong)} wrong, {len(self.failed)} starts that failed"
               + ("" if lost else "; nothing was lost, so nothing was tried"))
         return lost and not self.wrong and not self.failed

@@ -9,6 +9,7 @@ import re
 from functools import cache
 
 NUMBER = range(0, 2**64)  # what a time and a size may be
+READABLE = r"sha(?:1|256|384|512)-[A-Za-z0-9+/]{4,}={0,2}"  # the text of an integrity of one hash that this port reads
 
 
 @cache
@@ -57,13 +58,10 @@ def read_entry(piece):
         found = json.loads(text, parse_constant=float)
     except ValueError:
         return None
-    if digest != hashlib.sha256(text.encode()).hexdigest() or not isinstance(found, dict) or "metadata" not in found:
-        return None
-    if not isinstance(found.get("key"), str) or not isinstance(found.get("integrity"), (str, type(None))):
-        return None
-    if not all(isinstance(found.get(it), int) and found[it] in NUMBER for it in ("time", "size")) or not whole(found["metadata"]):
-        return None
-    return found
+    fits = digest == hashlib.sha256(text.encode()).hexdigest() and isinstance(found, dict) and "metadata" in found \
+        and isinstance(found.get("key"), str) and isinstance(found.get("integrity"), (str, type(None))) \
+        and all(isinstance(found.get(it), int) and found[it] in NUMBER for it in ("time", "size")) and whole(found["metadata"])
+    return found if fits else None
 
 
 def stands(root):
@@ -97,11 +95,6 @@ def lay(root, tree, now):
             at.chmod(what[0])
 
 
-def is_readable(integrity):
-    """Whether the text of an integrity of one hash is one that this port reads."""
-    return bool(re.fullmatch(r"sha(?:1|256|384|512)-[A-Za-z0-9+/]{4,}={0,2}", integrity))
-
-
 class Cache:
     """What a cache says that is the folder `cache` of a tree."""
 
@@ -111,7 +104,7 @@ class Cache:
         self.entries = {}
         for bytes_of in self.buckets.values():
             for found in filter(None, map(read_entry, bytes_of.split(b"\n"))):
-                if found["integrity"] is None or is_readable(found["integrity"]):
+                if found["integrity"] is None or re.fullmatch(READABLE, found["integrity"]):
                     self.entries[found["key"]] = found
         self.keys = sorted(key for key, found in self.entries.items() if found["integrity"])
 

@@ -63,9 +63,9 @@ def words():
     contents = [content_path(it) for it in (*LIVE.values(), *GONE.values(), OLD)]
     for made, removes, word in [
             (dropped, contents, "prune - 0"), (dropped, [], "prune --grace 1h --durable - 0"),
-            (oldest, [*unused, *hurt, content_path(BIG)], "prune 1000 -"), ({}, unused, "collect"), ({}, unused, "collect --grace 0 --durable"),
-            ({}, [], "collect --grace 1h"), ({}, unused[1:], "collect --keep roots"), (buried, hurt, "repair"), ({}, unused, "tidy"),
-            (dropped, contents, "tidy --age 0")]:
+            (oldest, [*unused, *hurt, content_path(BIG)], "prune 1000 -"), ({}, unused, "collect"), ({}, [], "collect --grace 1h"),
+            ({}, unused, "collect --grace 0 --durable"), ({}, unused[1:], "collect --keep roots"), (buried, hurt, "repair"),
+            ({}, unused, "tidy"), (dropped, contents, "tidy --age 0")]:
         yield Word([*word.split(), "c"], made=made, removes=removes, odd=False)
 
 

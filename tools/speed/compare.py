@@ -1,4 +1,4 @@
-#!/usr/bin/env python3
+#!/usr/bin/env -S python3 -B
 """Runs bench and the program in turn on tmpfs, and prints the processor, medians and ratios.
 
 compare.py BENCH PROGRAM [ROUNDS]: the built binaries of bench and cacache_cli. Figures are by the clock, the programs' own,
@@ -13,8 +13,7 @@ import sys
 import tempfile
 import time
 
-sys.dont_write_bytecode = True  # before the import of what stands beside this file
-from versus import processor
+from versus import begun, processor, spent
 
 MIB = 64
 KEYS, SIZE = 2000, 1024
@@ -25,25 +24,18 @@ LISTED = [1000, 100000]
 THROUGH_KIT = ["put", "put-again", "get", "find", "remove", "exists"]
 # These are made as futures too, by the bench's word future-KIND.
 AS_FUTURE = ["find", "get"]
-# Calls that look after a cache, each over a new one that the word makes first; the bench's word floor-KIND does the same through the kit alone.
-KEPT = {"sweep": ["10000"], "compact": ["10000", "10"], "repair": ["10000"], "plan": ["10000"], "verify": ["10000"], "collect": ["10000"], "prune": ["10000"]}
+# Calls that look after a cache, each over a new one that the word makes first; the bench's word floor-KIND does the same by the kit alone.
+KEPT = {it: ["10000", *["10"] * (it == "compact")] for it in "sweep compact repair plan verify collect prune".split()}
 
 figures = {}  # name -> list of ns
 peaks = {}  # name -> KiB
 buckets = {}  # depth -> bytes of the bucket
 
 
-def run(name, words, stdin=None, stdout=subprocess.DEVNULL):
-    start = time.monotonic_ns()
-    child = subprocess.Popen(words, stdin=stdin, stdout=stdout, stderr=subprocess.PIPE)
-    errors = child.stderr.read().decode()
-    _, status, used = os.wait4(child.pid, 0)
-    child.returncode = os.waitstatus_to_exitcode(status)
-    spent = time.monotonic_ns() - start
-    if child.returncode != 0:
-        sys.exit(f"{words}: status {child.returncode}: {errors}")
+def run(name, words, **streams):
+    took, used, errors = spent(words, **streams)
     told = re.search(r"ns (\d+)", errors)
-    figures.setdefault(name, []).append(int(told.group(1)) if told else spent)
+    figures.setdefault(name, []).append(int(told[1]) if told else took)
     peaks[name] = max(peaks.get(name, 0), used.ru_maxrss)
 
 
@@ -56,7 +48,7 @@ def run_small(bench, at):
         if kind in AS_FUTURE:
             run(f"{kind} future", [bench, f"future-{kind}", f"{at}/put-ours", str(KEYS)])
         if kind in THROUGH_KIT:
-            # floor-get, floor-find and floor-exists read what put wrote; floor-put needs nothing; floor-put-again and floor-remove write first what they need
+            # floor-get, floor-find and floor-exists read what put wrote; floor-put-again and floor-remove write first what they need
             where = f"{at}/{kind}-kit" if folder == kind else f"{at}/{folder}-ours"
             run(f"{kind} kit", [bench, f"floor-{kind}", where, str(KEYS)] + more)
 
@@ -101,7 +93,7 @@ def run_deep(bench, at):
 def run_program(bench, program, at):
     given, back = f"{at}/given", f"{at}/back"
     with open(given, "wb") as file:
-        for _ in range(MIB):
+        for _ in range(MIB):  # not at once, since the memory of this process counts as that of each program that it starts
             file.write(os.urandom(1 << 20))
     run("digest", [bench, "digest", str(MIB)])
     run("digest-sha1", [bench, "digest-sha1", str(MIB)])
@@ -120,22 +112,22 @@ def median(name):
     return statistics.median(figures[name])
 
 
-def least(name):
-    return min(figures[name])
-
-
 def ratio(over, under):
     above, below = figures[over], figures[under]
     if len(above) != len(below):
-        below = [statistics.median(below)] * len(above)
+        below = [median(under)] * len(above)
     each = [a / b for a, b in zip(above, below)]
     return f"{median(over) / median(under):.2f} ({min(each):.2f} to {max(each):.2f})"
+
+
+def ratios(over, under):
+    return f"{ratio(over, under)}, of the least times {min(figures[over]) / min(figures[under]):.2f}"
 
 
 def tell_small(kind):
     """Prints what a call takes, and its floor through the kit if there is one."""
     ours, kit = f"{kind} ours", f"{kind} kit"
-    over = f"  kit's floor {median(kit) / 1e3:6.2f}  over it {ratio(ours, kit)}, of the least times {least(ours) / least(kit):.2f}" if kit in figures else ""
+    over = f"  kit's floor {median(kit) / 1e3:6.2f}  over it {ratios(ours, kit)}" if kit in figures else ""
     print(f"  {kind:10} ours {median(ours) / 1e3:6.2f}{over}")
 
 
@@ -146,9 +138,9 @@ def tell():
     for kind in SMALL:
         tell_small(kind)
     for kind in AS_FUTURE:
-        print(f"  {kind} as a future, over the call {ratio(f'{kind} future', f'{kind} ours')}, of the least times {least(f'{kind} future') / least(f'{kind} ours'):.2f}")
+        print(f"  {kind} as a future, over the call {ratios(f'{kind} future', f'{kind} ours')}")
     for handle, call in (("put-writer", "put ours"), ("linker", "link")):
-        print(f"  {handle} over the call {ratio(handle, call)}, of the least times {least(handle) / least(call):.2f}")
+        print(f"  {handle} over the call {ratios(handle, call)}")
     print("ls, us an entry")
     for keys in LISTED:
         tell_small(f"ls {keys}")
@@ -156,8 +148,8 @@ def tell():
     for kind in KEPT:
         tell_small(kind)
     print(f"{MIB} MiB, ms; over the digest")
-    for kind in [name for name in figures if name in ("digest", "digest-sha1", "reader", "copy", "writer") or "large" in name or "<" in name or ">" in name]:
-        print(f"  {kind:16} {median(kind) / 1e6:7.1f}  {ratio(kind, 'digest')}  peak memory {peaks[kind] / 1024 / MIB:.2f} times the content")
+    for it in [it for it in figures if it in ("digest", "digest-sha1", "reader", "copy", "writer") or re.search("large|<|>", it)]:
+        print(f"  {it:16} {median(it) / 1e6:7.1f}  {ratio(it, 'digest')}  peak memory {peaks[it] / 1024 / MIB:.2f} times the content")
     print(f"get-deep, ns a byte of the bucket; the digest alone {block / 64:.2f}")
     for depth, bytes_ in buckets.items():
         each = [figure / bytes_ for figure in figures[f"get-deep {depth}"]]
@@ -165,29 +157,18 @@ def tell():
 
 
 def main():
-    if "--help" in sys.argv[1:]:
-        print(__doc__)
-        return
+    begun(__doc__)
     bench, program = (os.path.realpath(word) for word in sys.argv[1:3])
     rounds = int(sys.argv[3]) if len(sys.argv) > 3 else 5
-    root = tempfile.mkdtemp(prefix="compare-", dir="/dev/shm")
-    try:
-        load = os.getloadavg()[0]
-        for turn in range(rounds):
-            at = f"{root}/{turn}"
-            os.mkdir(at)
-            run_small(bench, at)
-            run_handles(bench, at)
-            run_listing(bench, at)
-            run_kept(bench, at)
-            run_large(bench, at)
-            run_deep(bench, at)
+    load = os.getloadavg()[0]
+    for _ in range(rounds):
+        with tempfile.TemporaryDirectory(prefix="compare-", dir="/dev/shm") as at:
+            for part in (run_small, run_handles, run_listing, run_kept, run_large, run_deep):
+                part(bench, at)
             run_program(bench, program, at)
-            shutil.rmtree(at)
-        print(f"{time.strftime('%F %T')}, {os.cpu_count()} processors, load before {load:.2f} and after {os.getloadavg()[0]:.2f}, {rounds} rounds")
-        tell()
-    finally:
-        shutil.rmtree(root, ignore_errors=True)
+    loads = f"load before {load:.2f} and after {os.getloadavg()[0]:.2f}"
+    print(f"{time.strftime('%F %T')}, {os.cpu_count()} processors, {loads}, {rounds} rounds")
+    tell()
 
 
 main()

@@ -1,4 +1,4 @@
-#!/usr/bin/env python3
+#!/usr/bin/env -S python3 -B
 """Runs the bench and the same words of the Rust crate in turn on tmpfs, and prints least times and ratios.
 
 versus.py BENCH OTHER [ROUNDS]: BENCH is a built bench. If OTHER is a folder, cargo builds the program in rust/ there twice, with link-time
@@ -15,8 +15,12 @@ import statistics
 import subprocess
 import sys
 import tempfile
+import time
 
-SMALL = [["put", "2000", "1024"], ["put-again", "2000", "1024"], *([word, "2000"] for word in ("get", "get-hash", "find", "exists", "ls", "remove"))]
+sys.path.insert(0, str(pathlib.Path(__file__).resolve().parent.parent / "edits"))
+from edits import begun
+
+SMALL = [["put", "2000", "1024"], ["put-again", "2000", "1024"], *([it, "2000"] for it in "get get-hash find exists ls remove".split())]
 LARGE = [[word, "64"] for word in ("put-large", "get-large", "writer", "reader")]
 RUST = pathlib.Path(__file__).resolve().parent / "rust"
 BUILDS = {"as it comes": [], "force-soft": ["--features", "force-soft"]}  # the columns of the Rust crate, with what cargo is given
@@ -30,6 +34,19 @@ def processor(text):
     flags = re.search(r"(?m)^(?:flags|Features)\s*: (.*)$", text)
     has = bool({"sha_ni", "sha2"} & set(flags[1].split())) if flags else False
     return f"{name[1] if name else 'unknown processor'}, {'with' if has else 'without'} SHA instructions"
+
+
+def spent(words, stdin=None, stdout=subprocess.DEVNULL):
+    """What a run of a program took by the clock, in nanoseconds, what it used, and its standard error; it must end well."""
+    start = time.monotonic_ns()
+    child = subprocess.Popen(words, stdin=stdin, stdout=stdout, stderr=subprocess.PIPE)
+    errors = child.stderr.read().decode()
+    _, status, used = os.wait4(child.pid, 0)
+    child.returncode = os.waitstatus_to_exitcode(status)
+    took = time.monotonic_ns() - start
+    if child.returncode != 0:
+        sys.exit(f"{words}: status {child.returncode}: {errors}")
+    return took, used, errors
 
 
 def built(folder):
@@ -71,11 +88,7 @@ def line(word, others):
 
 
 def main():
-    if "--help" in sys.argv[1:]:
-        print(__doc__)
-        return
-    if len(sys.argv) not in (3, 4):
-        sys.exit(__doc__)
+    begun(__doc__, len(sys.argv) in (3, 4))
     bench, other = (pathlib.Path(word).resolve() for word in sys.argv[1:3])
     if other.is_dir() and not shutil.which("cargo"):
         sys.exit("versus: there is no cargo to build the Rust crate with")
