@@ -265,7 +265,7 @@ def definitions():
     return {(crate, *module): defined(file.read_text()) for file, (crate, _, *module) in places}
 
 
-def differences(page, text, tool):
+def renewed(page, text, tool):
     """Writes a page, or with `--check` only says how it differs from what it should say."""
     text = text.replace("→", "->")
     if "--check" not in sys.argv[1:]:

@@ -92,8 +92,8 @@ CachesAreSwept =
 abbrev pub IsKeyOf : List Found → List ℕ → Type 0
 IsKeyOf entries key = (f : Found) × Contains entries f × (f.key ≡ key)
 
--- these contents were damaged, and are gone; the good ones are left; the keys of these entries lead to
--- nothing, and each other key leads where it led
+-- the damaged contents are gone, and the good ones are left; the keys of these entries lead to nothing,
+-- and each other key leads where it led
 pub record MendsCache
     (site : Site) (home : Names) (t new : Tree)
     (damaged : List (List Hash)) (dangling : List Found) : Type 0 where

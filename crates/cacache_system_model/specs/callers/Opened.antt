@@ -23,7 +23,7 @@ pub record IsApart (names : Names) (t : Tree) (to : List ℕ) : Type 0 where
   pub leads : (end : Names) → writable t to ≡ Ok end → same_path names end ≡ false
 
 -- a step neither moves nor removes what is at these names, and puts nothing there; its temporary file is still at its path,
--- its open file is one, and its folder can be listed
+-- what it reads is open, and its folder can be listed
 abbrev pub StillStores : Names → Machine → NumberedStep → Type 0
 StillStores names m (steps.Write t bytes) = IsStill m t
 StillStores names m (steps.Persist t p) = IsStill m t × Avoids names t.path × Avoids names p
