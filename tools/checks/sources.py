@@ -27,8 +27,8 @@ OPENS, CLOSES = "([{<", ")]}>"
 # its file with the places where its body begins and ends.
 Block = collections.namedtuple("Block", "trait crate name type file start end")
 # A definition, or a field of a record: its line, the first sentence of the comment above it, the part of its file, whether it is a record,
-# the fields of a record by their names, and what its lines after an arrow begin with, or of a field all that its line names.
-Definition = collections.namedtuple("Definition", "line comment part is_record fields cites")
+# the fields of a record by their names, and what it names after arrows. Of a field that is all that its line names, and it has a text.
+Definition = collections.namedtuple("Definition", "line comment part is_record fields cites text", defaults=[None])
 
 
 @functools.cache
@@ -248,12 +248,15 @@ def defined(text):
         field = re.match(r"pub (\w+) :", plain)
         item = re.match(r"(?=abbrev |unfoldable |pub |record |data )(?:abbrev |unfoldable )?(?:pub )?(?:record |data )?(?!use |mod )([^\W\d][^\s:({]*)", plain)
         if last and last.is_record and field and indent == place + 2:
-            last.fields[field[1]] = Definition(line, sentence(comment), part, False, {}, re.findall(r"\b[A-Z]\w*", plain))
+            text = [plain[field.end():].strip()]
+            last.fields[field[1]] = Definition(line, sentence(comment), part, False, {}, re.findall(r"\b[A-Z]\w*", plain), text)
         elif item and indent in (0, 2, 4):
             last, place = Definition(line, sentence(comment), part, "record " in plain[:12], {}, []), indent
             found.setdefault(item[1], last)
-        elif last:
-            last.cites.extend(re.findall(r"^→ ([A-Z]\w*)", plain))
+        elif last and last.fields and plain and indent > place + 2:
+            text.append(plain)
+        elif last and not plain.startswith("module"):
+            last.cites.extend(re.findall(r"→ ([A-Z]\w*)", plain))
         comment = []
     return found
 

@@ -44,9 +44,9 @@ pub record Headline (h : History) : Type 0 where
   -- a commit did nothing, put or found its content, or then added its entry, too; an Ok says that it
   -- did all; a removal removed at most its content, and with its key the key's bucket
   pub commits : CommitsAreCases h
-  -- the entry that a commit added names a content that is there, unless a step removed it
+  -- an added entry, if no integrity is expected, names a content that is there, unless removed
   pub entries : EntriesNameContents h
-  -- the content of a put that answered is there too, with or without a key
+  -- the content of a put that answered is there, with or without a key, unless removed
   pub stored : PutsLeaveContents h
   -- each `IoError` has a cause in its call's own steps
   pub causes : RepliesHaveCauses h

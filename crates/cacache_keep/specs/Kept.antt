@@ -25,7 +25,7 @@ ListsHold =
     × HoldsJust cache home (tree_of old) hashes strange)
     × LeavesTree old new
 
--- a verification judges what the cache holds, and changes nothing
+-- a verification that answers Ok judges what the cache holds, and changes nothing
 abbrev pub VerdictsJudge : Type 0
 VerdictsJudge =
     (site : Site) (home : Names) (good : ℕ) (damaged : List (List Hash)) (dangling : List Found)
@@ -221,9 +221,9 @@ Tidied site (Some removal ∷ events) old new =
     (found : List LogItem) × LeavesTree old found
     × (left : List LogItem) × Removed site.cache removal found left × Tidied site events left new
 
--- if links lead out of the cache, let the same removals come with a collection before them, and
--- perhaps more between them, and without any: each later lookup, verified read by key and listing
--- answers with them what it may answer without them
+-- if links lead out of the cache, after removals with a collection before them, and perhaps more
+-- between them, each later lookup, verified read by key and listing answers what it may after these
+-- removals alone
 abbrev pub LaterReadsStay : Type 0
 LaterReadsStay =
     (site : Site) (home : Names) (kept : ℕ) (dropped : List (List Hash))

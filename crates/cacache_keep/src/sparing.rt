@@ -5,7 +5,7 @@ ghost use Rattle.cacache_keep.specs.Sparing.{PrunePlansLeave, PrunesDropKeys, Pr
 /// in memory where everything stands where it may, each key that led to bytes leads to the same entry and the same
 /// bytes, unless an entry that was dropped or left has it (`keys`). The key of such an entry led to that entry (`led`),
 /// and leads to nothing then if it was dropped (`drops`). Each other key leads where it led also after one that an error
-/// ended, unless its key was dropped before that, or memory ran out as it was to be (`stopped`).
+/// ended, unless its key was dropped before that, or memory ran out as it was being dropped (`stopped`).
 pub fn prune_laws()
     ensures plans { PrunePlansLeave }
     ensures keys { PrunesSpareKeys }

@@ -47,7 +47,7 @@ pub record SaysFit (s : Said) : Type 0 where
   pub raw : AreBytes s.raw_metadata
   pub formed : IfSome s.integrity IsIntegrity
 
--- if no metadata were said, it fits
+-- what is said without metadata fits
 abbrev pub PlainSaysFit : Type 0
 PlainSaysFit =
     (s : Said) → s.metadata ≡ null → s.raw_metadata ≡ None → IfSome s.integrity IsIntegrity

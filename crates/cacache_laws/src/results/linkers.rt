@@ -4,7 +4,7 @@ ghost use Rattle.cacache_laws.specs.results.{Handles.{PlainSaysFit}, Linkers.{Li
 use cacache_disk::memory::MemStore;
 use cacache_store::env::{Clock, Env, Names};
 
-/// After each call of a linker: an opened one took nothing of its target yet, and goes on with what it is read. A
+/// After each call of a linker: an opened one took nothing of its target yet, and goes on with what is read. A
 /// commit that stored leads its key to an entry of what was said, with the integrity of all bytes that the target
 /// showed when it was opened, whatever became of it since; a link to it lies there, unless something lay there
 /// before. Whatever it answers, other keys lead where they led, and all bytes stay except those at that address. An

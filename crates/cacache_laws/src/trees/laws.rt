@@ -51,8 +51,8 @@ pub fn compact_laws()
     ensures found { CompactTextsKeepFound }
 {}
 
-/// In any store that stands a key that leads to bytes leads to the same entry and the same bytes, after any list of calls
-/// that spare it, over or broken off (`stay`). One of the texts written since may be there instead, if it meets the integrity too.
+/// If each thing is where it may be, a key that leads to bytes still leads to the same entry and bytes after any calls
+/// that spare it, over or broken off (`stay`). One of the texts written since may be there instead, if it meets the integrity.
 pub fn spared_laws()
     ensures fit { TombstonesFit }
     ensures stay { SparedKeysStay }
