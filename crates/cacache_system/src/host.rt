@@ -3,14 +3,15 @@
 ghost use Rattle.std.specs.{Prelude.{◌≡◌, ◌++◌, None, OnOk, IfSome}, Io.{StartsWith}};
 
 use crate::call::FileInfo;
-use crate::open_folders::OpenFolders;
+use crate::held::Node;
+use crate::open_folders::{OpenFolders, unless_other};
 use crate::system::System;
 use cacache_core::text::Text;
 use cacache_store::store::Kind;
 use std::alloc::{Alloc, AllocError, Global};
 use std::fs::{File, Metadata, OpenFile, Permissions};
 use std::io;
-use std::io::{Read, Write};
+use std::io::{ErrorKind, Read, Write};
 use std::os::fd::AsRawFd;
 use std::os::unix::fs::{MetadataExt, OpenOptionsExt, PermissionsExt};
 use std::random::RandomSource;
@@ -106,6 +107,33 @@ fn in_millis(seconds: i64, nanoseconds: i64) -> u64 {
     u64::try_from(millis).unwrap_or(0)
 }
 
+/// Opens the file at a path, to which a walk leads, to append to it, or makes it. No link is followed: what was opened has to be
+/// what is at the path.
+fn open_plain<R: Files>(rt: &R, path: &str) -> io::Result<R::File> {
+    let named = match rt.symlink_metadata(path) {
+        Ok(metadata) => metadata,
+        Err(error) if error.kind() == ErrorKind::NotFound => {
+            return File::options().append(true).create_new(true).open(rt, path);
+        }
+        Err(error) => return Err(error),
+    };
+    if !named.is_file() {
+        return Err(io::Error::from(ErrorKind::Unsupported));
+    }
+    unless_other(
+        File::options().append(true).open(rt, path),
+        Some(Node::of(&named)),
+    )
+}
+
+/// Whether the path, at which is a link, leads to what is neither file nor folder.
+fn leads_to_odd<R: Files>(rt: &R, path: &str) -> bool {
+    match rt.metadata(path) {
+        Ok(metadata) => is_odd(&metadata),
+        Err(_) => false,
+    }
+}
+
 /// The path by which to ask for what is at a path: another, if a walk leads there.
 fn by<'a>(path: &'a str, other: &'a Option<String>) -> &'a str {
     match other {
@@ -145,11 +173,13 @@ where
 
     fn open_to_append(&mut self, path: &str) -> io::Result<R::File> {
         self.walks.refuse_odd(path)?;
-        let within = self.walks.within(&self.rt, path)?;
-        File::options()
-            .append(true)
-            .create(true)
-            .open(&self.rt, by(path, &within))
+        match self.walks.within(&self.rt, path)? {
+            Some(within) => open_plain(&self.rt, within.as_str()),
+            None => File::options()
+                .append(true)
+                .create(true)
+                .open(&self.rt, path),
+        }
     }
 
     fn open_folder(&mut self, path: &str) -> io::Result<R::Dir> {
@@ -201,8 +231,10 @@ where
 
     fn stat_link(&mut self, path: &str) -> io::Result<FileInfo> {
         let near = self.walks.near(path)?;
-        let metadata = self.rt.symlink_metadata(by(path, &near))?;
-        if is_odd(&metadata) {
+        let there = by(path, &near);
+        let metadata = self.rt.symlink_metadata(there)?;
+        let is_led = metadata.is_symlink() && self.walks.are_held();
+        if is_odd(&metadata) || is_led && leads_to_odd(&self.rt, there) {
             self.walks.note_odd(path)?;
         }
         Ok(info(&metadata))

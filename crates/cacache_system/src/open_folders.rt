@@ -85,8 +85,11 @@ fn open_named<R: Files>(
     unless_other(File::open(rt, asked.as_str()), named)
 }
 
-/// A folder that was opened, if it is the one that was named.
-fn unless_other<F: OpenFile + Drop>(opened: io::Result<F>, named: Option<Node>) -> io::Result<F> {
+/// What was opened, if it is what was named.
+pub(crate) fn unless_other<F: OpenFile + Drop>(
+    opened: io::Result<F>,
+    named: Option<Node>,
+) -> io::Result<F> {
     let file = opened?;
     match (file.metadata(), named) {
         (Ok(_), None) => Ok(file),
@@ -111,12 +114,16 @@ where
     held_as(alloc, path, false, File::open(rt, asked.as_str()))
 }
 
-/// The folder of a cache and its other area, if a walk begins at one of the two.
+/// What comes before the name of the folder in its path, and the cache's other area, if a walk begins at one of the two.
 fn other_area(folder: &str) -> Option<(&str, &'static str)> {
-    let (cache, area) = folder.rsplit_once('/')?;
+    let area = match folder.rsplit_once('/') {
+        Some((_, area)) => area,
+        None => folder,
+    };
+    let before = folder.strip_suffix(area)?;
     match area {
-        INDEX_AREA => Some((cache, CONTENT_AREA)),
-        CONTENT_AREA => Some((cache, INDEX_AREA)),
+        INDEX_AREA => Some((before, CONTENT_AREA)),
+        CONTENT_AREA => Some((before, INDEX_AREA)),
         _ => None,
     }
 }
@@ -163,6 +170,11 @@ where
         }
         self.odd.push(String::from_str(self.alloc, path)?)?;
         Ok(())
+    }
+
+    /// Whether a walk is under way.
+    pub(crate) fn are_held(&self) -> bool {
+        !self.held.is_empty()
     }
 
     /// Refuses to open what is neither file, folder nor link, which could wait for ever.
@@ -314,10 +326,10 @@ where
     /// Holds the folder of contents too, if a walk begins in the index beside it, and the other way round, so that no link
     /// takes its place before the walk through that. One that can't be opened, such as a link, isn't held.
     fn hold_other(&mut self, rt: &R, folder: &str) -> Result<(), AllocError> {
-        let Some((cache, other)) = other_area(folder) else {
+        let Some((before, other)) = other_area(folder) else {
             return Ok(());
         };
-        let other = format!(in self.alloc; "{cache}/{other}")?;
+        let other = joined(self.alloc, before, other)?;
         if !self.is_first(other.as_str()) {
             let _unless_it_fails = self.begin(rt, other.as_str(), other.as_str());
         }
@@ -330,6 +342,20 @@ where
             .as_slice()
             .iter()
             .any(|held| held.is_first && held.path.as_str() == folder)
+    }
+
+    /// Makes sure that a folder at which a walk began is still at its path. Otherwise its listing might lack what is there now.
+    fn must_stay(&mut self, rt: &R, folder: &str) -> io::Result<()> {
+        for held in self.held.as_mut_slice() {
+            if held.is_first && held.path.as_str() == folder {
+                let known = held.known(rt)?;
+                return match rt.metadata(folder) {
+                    Ok(found) if Node::of(&found).is_same(known) => Ok(()),
+                    _ => Err(no_folder()),
+                };
+            }
+        }
+        Ok(())
     }
 
     /// Lists a folder at which a walk began. Without `/proc` it isn't held any more.
@@ -352,7 +378,12 @@ where
     /// Opens a folder to list it. Below a folder that is held no link is followed. Elsewhere a walk begins.
     pub(crate) fn list(&mut self, rt: &R, path: &str) -> io::Result<R::Dir> {
         let folder = path.trim_end_matches('/');
-        if !self.is_first(folder) {
+        if self.is_first(folder) {
+            if let Err(error) = self.must_stay(rt, folder) {
+                self.leave(folder);
+                return Err(unless_missing(error));
+            }
+        } else {
             if let Some(there) = self.within(rt, folder)? {
                 return rt.open_dir(there.as_str());
             }
