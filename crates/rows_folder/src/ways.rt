@@ -265,7 +265,15 @@ pub(crate) fn ways_of(word: &str) -> Result<Ways, Flaw> {
 }
 
 /// How a file is opened to append to it, to read it, and to make it as a temporary file, each with a name.
-const OPENINGS: [(&str, &str); 3] = [
+const OPENINGS: [(&str, &str); 5] = [
+    (
+        "append-old",
+        "OpenOptions { read: false, write: false, append: true, truncate: false, create: false, create_new: false, mode: 438 }",
+    ),
+    (
+        "append-new",
+        "OpenOptions { read: false, write: false, append: true, truncate: false, create: false, create_new: true, mode: 438 }",
+    ),
     (
         "append",
         "OpenOptions { read: false, write: false, append: true, truncate: false, create: true, create_new: false, mode: 438 }",
