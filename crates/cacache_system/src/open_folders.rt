@@ -344,18 +344,18 @@ where
             .any(|held| held.is_first && held.path.as_str() == folder)
     }
 
-    /// Makes sure that a folder at which a walk began is still at its path. Otherwise its listing might lack what is there now.
-    fn must_stay(&mut self, rt: &R, folder: &str) -> io::Result<()> {
+    /// Whether a folder at which a walk began is still at its path. If not, its listing might lack what is there now.
+    fn stays(&mut self, rt: &R, folder: &str) -> io::Result<bool> {
         for held in self.held.as_mut_slice() {
             if held.is_first && held.path.as_str() == folder {
                 let known = held.known(rt)?;
                 return match rt.metadata(folder) {
-                    Ok(found) if Node::of(&found).is_same(known) => Ok(()),
-                    _ => Err(no_folder()),
+                    Ok(found) => Ok(Node::of(&found).is_same(known)),
+                    Err(_) => Ok(false),
                 };
             }
         }
-        Ok(())
+        Ok(true)
     }
 
     /// Lists a folder at which a walk began. Without `/proc` it isn't held any more.
@@ -379,9 +379,14 @@ where
     pub(crate) fn list(&mut self, rt: &R, path: &str) -> io::Result<R::Dir> {
         let folder = path.trim_end_matches('/');
         if self.is_first(folder) {
-            if let Err(error) = self.must_stay(rt, folder) {
-                self.leave(folder);
-                return Err(unless_missing(error));
+            match self.stays(rt, folder) {
+                Ok(true) => {}
+                // It stays open, so that no link that took its place is followed.
+                Ok(false) => return Err(no_folder()),
+                Err(error) => {
+                    self.leave(folder);
+                    return Err(unless_missing(error));
+                }
             }
         } else {
             if let Some(there) = self.within(rt, folder)? {
