@@ -10,4 +10,3 @@ pub mod Missing
 pub mod PruneTold
 pub mod Numbers
 pub mod Roots
-pub mod Refused

@@ -1,5 +1,5 @@
 -- What the store says of a path, and whether nothing is there.
-use Rattle.std.proofs.Common.{◌≡◌, ◌⊎◌, inl, inr, ℕ, List, Option, Some, IfSome, Ok, Err, Bool, true, false, not, refl, subst}
+use Rattle.std.proofs.Common.{◌≡◌, ◌⊎◌, inl, inr, ℕ, List, Option, Ok, Err, Bool, true, false, not, refl, subst}
 use Rattle.cacache_store.specs.declared.store.answer.Answer.TheVariants as answers
 use Rattle.cacache_store.specs.declared.store.step.Step.TheVariants as steps
 use Rattle.cacache_store.specs.{declared.store.log.LogItem.{LogItem}, Plain.{Fits, Logs, PlainAnswer}}
@@ -29,9 +29,3 @@ said path p t there old new same is logs = subst (λ q. Said q (not there) old n
 
 pub unsaid : (path p : List ℕ) (t : PlainAnswer) (refusal : Refusal) (old new : Option (List LogItem)) → p ≡ path → Err refusal ≡ there_in t → Fits (steps.Exists p) t → Logs old new (steps.Exists p) t → Said path false old new
 unsaid path p t refusal old new same is fits logs = subst (λ q. Said q false old new) same (unsaid_so p t refusal old new is fits logs)
-
--- ---- which cache the words name
-
--- what holds of the cache that was found holds of the one that is asked for
-pub found_asked : (asked : Option (List ℕ)) (cache : List ℕ) (Q : List ℕ → Type 0) → Some cache ≡ asked → Q cache → IfSome asked Q
-found_asked asked cache Q is q = subst (λ (o : Option (List ℕ)). IfSome o Q) is q

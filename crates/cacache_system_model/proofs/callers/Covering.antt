@@ -178,10 +178,6 @@ made_so : (temps : Names → Bool) (made : StepMade) (reply : Option Reply) → 
     → IsMade temps made ⊎ (EndsFailed made reply × Premise made.before made.hint made.step)
 made_so temps made reply runs each luck which = grind (arith, common_steps)
 
-abbrev forgotten : {A B C : Type 0} → A ⊎ (B × C) → A ⊎ B
-forgotten (inl a) = inl a
-forgotten (inr (b, c)) = inr b
-
 -- ---- acts
 
 module _ (s : Setup) (apart : LieApart (home s) s.outside) (w : SystemState) (now : Now) (agree : Agree s w now) where

@@ -211,14 +211,6 @@ errand_has s errand = grind (arith, has_none)
 visit_has : (s : State) (v : Visit) → Has s (visit_step v)
 visit_has s v = grind (arith, has_none)
 
-abbrev wanted_file : Option PlainStep → Option PlainTemp
-wanted_file None = None
-wanted_file (Some step) = file_of step
-
-abbrev wanted_open : Option PlainStep → Option PlainFile
-wanted_open None = None
-wanted_open (Some step) = open_of step
-
 -- what a state needs, the step that it asks for has
 state_has : (s : State) (step : PlainStep) → wants s ≡ Some step → Has s step
 state_has s step w = grind (arith, some_is, errand_has, visit_has, has_none)
