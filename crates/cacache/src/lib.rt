@@ -40,14 +40,15 @@ pub use get::{
     reflink, reflink_hash, reflink_hash_sync, reflink_hash_unchecked_sync, reflink_sync,
     reflink_unchecked, reflink_unchecked_sync,
 };
-pub use index::{Metadata, RemoveOpts};
+pub use index::{Metadata, RemoveAsync, RemoveOpts};
 pub use integrity::{Algorithm, Integrity, IntegrityOpts};
 pub use linkto::{SyncToLinker, ToLinker, link_to, link_to_hash, link_to_hash_sync, link_to_sync};
-pub use ls::list_sync;
+pub use ls::{Ls, list_sync};
 pub use put::{
-    SyncWriter, WriteOpts, Writer, write, write_hash, write_hash_sync, write_hash_sync_with_algo,
-    write_hash_vec_sync, write_hash_vec_sync_with_algo, write_hash_with_algo, write_sync,
-    write_sync_with_algo, write_vec_sync, write_vec_sync_with_algo, write_with_algo,
+    LinkAsync, OpenAsync, SyncWriter, WriteOpts, Writer, write, write_hash, write_hash_sync,
+    write_hash_sync_with_algo, write_hash_vec_sync, write_hash_vec_sync_with_algo,
+    write_hash_with_algo, write_sync, write_sync_with_algo, write_vec_sync,
+    write_vec_sync_with_algo, write_with_algo,
 };
 pub use rm::{clear, clear_sync, remove, remove_hash, remove_hash_sync, remove_sync};
 pub use serde_json::Value;

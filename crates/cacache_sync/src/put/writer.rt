@@ -138,7 +138,7 @@ impl<T: TempFile> SyncWriter<T> {
     /// let sri = writer.commit(&mut env)?;
     /// ```
     ///
-    /// `IoError` has the fault of that write. Whether the file could be removed isn't reported. Contents and index
+    /// `IoError` has a fault with which writes to such a file fail. Whether the file could be removed isn't reported. Contents and index
     /// stay as they were.
     pub fn write_or_abandon<S: Store<Temp = T>, C: Clock, N: Names>(
         self,
