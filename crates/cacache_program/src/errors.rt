@@ -29,11 +29,15 @@ impl<E: Drop> Errors<E> {
     }
 }
 
-/// Prints this usage, and returns the status of wrong words.
-pub fn tell_misuse<E: Write>(usage: &str, errors: &mut Errors<E>) -> u8
+/// Prints this usage, and returns the status of wrong words. If the errors say why, a line follows that says what is
+/// wrong with them.
+pub fn tell_misuse<E: Write>(usage: &str, wrong: &str, errors: &mut Errors<E>) -> u8
     ensures { result ≡ 2 }
 {
     let _ = errors.output.write_all(usage.as_bytes());
+    if errors.says_why {
+        let _ = writeln!(errors.output, "{wrong}; see --help");
+    }
     2
 }
 

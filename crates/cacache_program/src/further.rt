@@ -2,13 +2,13 @@
 ghost use Rattle.std.specs.Prelude.{◌≡◌, ◌≢◌, ◌≤◌, codes};
 ghost use Rattle.cacache_program.specs.{FurtherWords.{FiledDoes, IsNoFiled, IsWrongFurther}, WordCopy.{Copies}, WordExists.{AsksHash}, WordReadHash.{ReadsHash}, WordStore.{StoresFile}, WordWriteHash.{WritesHash}, Words.{KeyedDoes, asked_of}};
 
-use crate::about::USAGE;
+use crate::about::{HELP, USAGE};
 use crate::copying::copy;
 use crate::errors::{Errors, tell_misuse};
 use crate::existing::exists;
 use crate::reading_hash::read_hash;
 use crate::storing::store;
-use crate::words::parse_words;
+use crate::words::{parse_words, wrong_in};
 use crate::writing_hash::write_hash;
 use cacache::env::{Clock, Env, Names, Reasons};
 use std::io::{Read, Write};
@@ -31,7 +31,7 @@ fn run_filed<S: Reasons, C: Clock, N: Names, W: Write, E: Write>(
     ensures quiet { result ≡ 0 → errors.new ≡ errors.old }
 {
     let [name, cache, key, file] = words else {
-        return tell_misuse(USAGE, errors);
+        return tell_misuse(USAGE, wrong_in(words, HELP), errors);
     };
     match name.as_str() {
         "copy" => copy(
@@ -50,7 +50,7 @@ fn run_filed<S: Reasons, C: Clock, N: Names, W: Write, E: Write>(
             output,
             errors,
         ),
-        _ => tell_misuse(USAGE, errors),
+        _ => tell_misuse(USAGE, wrong_in(words, HELP), errors),
     }
 }
 

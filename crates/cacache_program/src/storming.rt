@@ -45,7 +45,7 @@ pub fn tell_failed_storm<E: Write>(errors: &mut Errors<E>, fault: StormFault) ->
     ensures other { fault ≢ Count → result ≡ 1 }
 {
     match fault {
-        StormFault::Count => tell_misuse(USAGE, errors),
+        StormFault::Count => tell_misuse(USAGE, "too few or too many", errors),
         StormFault::Mismatch => tell_failure(errors, "storm: mismatch", None),
         StormFault::Quit => tell_failure(errors, "storm: quit", None),
         StormFault::Failed(error) => tell_failed_call(errors, &error, None),
@@ -89,7 +89,7 @@ pub(crate) fn storm<T: Threads + Wait + Clock + AllocGlobal + Sync, W: Write, E:
     ensures quiet { result ≡ 0 → errors.new ≡ errors.old }
 {
     let (Some(threads), Some(keys)) = (number_of(threads), number_of(keys)) else {
-        return tell_misuse(USAGE, errors);
+        return tell_misuse(USAGE, "not a number", errors);
     };
     match cacache::world::storm(rt, threads, keys, &Open) {
         Ok(storm) => tell(rt.alloc(), storm, output, errors),

@@ -27,6 +27,19 @@ pub(crate) fn parse_words(words: &[String]) -> (&str, &str, Option<&str>)
     }
 }
 
+/// What is wrong with words that a program doesn't take. Each line of its help begins with a word that it knows.
+pub(crate) fn wrong_in(words: &[String], help: &str) -> &'static str {
+    let Some(first) = words.first() else {
+        return "no word is given";
+    };
+    for line in help.lines() {
+        if line.split_whitespace().next() == Some(first.as_str()) {
+            return "wrong words after the first";
+        }
+    }
+    "unknown word"
+}
+
 /// Prints why the words can't be had, and returns the status: 1 if memory ran out, and 2 with this
 /// usage if a word isn't UTF-8.
 pub fn without_words<E: Write>(error: &io::Error, usage: &str, errors: &mut Errors<E>) -> u8
@@ -36,5 +49,5 @@ pub fn without_words<E: Write>(error: &io::Error, usage: &str, errors: &mut Erro
     if error.kind() == ErrorKind::OutOfMemory {
         return tell_failure(errors, "out of memory", None);
     }
-    tell_misuse(usage, errors)
+    tell_misuse(usage, "a word isn't UTF-8", errors)
 }

@@ -54,7 +54,7 @@ pub(crate) fn write_hash<S: Reasons, C: Clock, N: Names, R: Read, W: Write, E: W
         Ok(algorithm) => write_under(env, cache, algorithm, input, output, errors),
         Err(error) => {
             let_go(error);
-            tell_misuse(USAGE, errors)
+            tell_misuse(USAGE, "unknown algorithm", errors)
         }
     }
 }

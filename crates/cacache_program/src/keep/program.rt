@@ -3,7 +3,7 @@ ghost use Rattle.std.specs.Prelude.{◌≡◌, ◌≢◌, ◌≤◌, IfNone, IfS
 ghost use Rattle.cacache_program.specs.{Orders.{order_in, order_of as view_of}, Doing.{DoesWord, VerifiesAs}, WordVerify.{Verifies}, WordList.{ListsVerdict}, WordCompact.{Compacts}, WordPlan.{Plans}, WordRepair.{Repairs}, WordSweep.{Sweeps}};
 
 use crate::errors::{Errors, tell_failed_call, tell_misuse};
-use crate::keep::about::USAGE;
+use crate::keep::about::{HELP, USAGE};
 use crate::keep::collecting::{collect_as, odd_of};
 use crate::keep::names::Word;
 use crate::keep::naming::listed_text;
@@ -15,6 +15,7 @@ use crate::keep::pruning::{plan_prune_and_print, prune_and_print};
 use crate::keep::tidying::tidy;
 use crate::keep::touching::touch_and_print;
 use crate::output::put_made;
+use crate::words::wrong_in;
 use cacache::env::{Clock, Env, Names, Reasons};
 use cacache_keep::{CompactOpts, OddLines, plan, repair_with, sweep, verify};
 use cacache_store::store::Stamps;
@@ -204,6 +205,6 @@ pub fn run<S: Reasons + Stamps, C: Clock, N: Names, W: Write, E: Write>(
 {
     match order_of(words) {
         Some(order) => carry_out(env, order, output, errors),
-        None => tell_misuse(USAGE, errors),
+        None => tell_misuse(USAGE, wrong_in(words, HELP), errors),
     }
 }
