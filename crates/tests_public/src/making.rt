@@ -1,4 +1,6 @@
 //! The worlds and the calls that tests begin with.
+ghost use Rattle.std.specs.Prelude.{◌≡◌, IfOk};
+
 use cacache_calls::{Command, Link, Options, Put};
 use cacache_core::bytes::Bytes;
 use cacache_core::integrity::{Algorithm, Integrity};
@@ -73,7 +75,9 @@ fn outside(alloc: Global) -> Result<Vec<(Text, Bytes)>, AllocError> {
 }
 
 /// A world of some callers, with one outside file.
-pub(crate) fn world_of(alloc: Global, callers: usize) -> Result<World, AllocError> {
+pub(crate) fn world_of(alloc: Global, callers: usize) -> Result<World, AllocError>
+    ensures { IfOk result (λ w. w.setup.callers ≡ callers) }
+{
     let files = outside(alloc)?;
     let (cache, files) = beside(Text::from_str(alloc, "c"), files)?;
     match World::new(alloc, callers, cache, files) {

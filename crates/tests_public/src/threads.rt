@@ -1,6 +1,5 @@
 //! Tests with threads: at one world, each with a seat of its own, at one real folder, and at polled writers.
 mod folders;
-mod making;
 mod meetings;
 mod seats;
 mod storms;

@@ -1,7 +1,7 @@
 //! Threads that put their own keys and look for one another's.
 ghost use Rattle.std.specs.Prelude.{◌≡◌, ◌<◌};
 
-use crate::threads::making::{put, world_of};
+use crate::making::{put, world_of};
 use cacache::jobs::{Command, Reply};
 use cacache::store::Luck;
 use cacache::text::Text;
@@ -68,7 +68,7 @@ fn put_and_get<L: Ledger, R: Wait>(
     seat: &mut Seat<L>,
 ) -> Result<(), AllocError> {
     let own = text_of(alloc, seat.caller())?;
-    let (put, own) = beside(put(alloc, own.as_str()), own)?;
+    let (put, own) = beside(put(alloc, own.as_str(), own.as_str()), own)?;
     runs(rt, world, seat, put);
     runs(rt, world, seat, Command::Get(Text::new(own)));
     Ok(())

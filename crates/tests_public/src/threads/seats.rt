@@ -1,7 +1,7 @@
 //! A seat of one thread.
 ghost use Rattle.std.specs.Prelude.{◌≡◌};
 
-use crate::threads::making::{put, world_of};
+use crate::making::{put, world_of};
 use cacache::errors::{Error, Fault};
 use cacache::jobs::{Command, Reply};
 use cacache::store::Luck;
@@ -47,7 +47,7 @@ fn put_fails<L: Ledger, R: Wait>(
     shared: &SharedWorld<L>,
     seats: &mut Vec<Seat<L>>,
 ) -> Result<bool, AllocError> {
-    let command = put(alloc, "a")?;
+    let command = put(alloc, "a", "a")?;
     Ok(match seats.get_mut(0) {
         Some(seat) => fails_at_once(rt, shared, seat, command),
         None => {
