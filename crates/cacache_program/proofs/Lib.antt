@@ -10,3 +10,4 @@ pub mod Missing
 pub mod PruneTold
 pub mod Numbers
 pub mod Roots
+pub mod Refused

@@ -13,6 +13,13 @@ use crate::writing_hash::write_hash;
 use cacache::env::{Clock, Env, Names, Reasons};
 use std::io::{Read, Write};
 
+/// Prints the usage, and returns the status of wrong words.
+fn tell_wrong<E: Write>(words: &[String], errors: &mut Errors<E>) -> u8
+    ensures { result ≡ 2 }
+{
+    tell_misuse(USAGE, wrong_in(words, HELP), errors)
+}
+
 /// Does what four words say: a name, a cache, a key and a file.
 fn run_filed<S: Reasons, C: Clock, N: Names, W: Write, E: Write>(
     env: &mut Env<S, C, N>,
@@ -31,7 +38,7 @@ fn run_filed<S: Reasons, C: Clock, N: Names, W: Write, E: Write>(
     ensures quiet { result ≡ 0 → errors.new ≡ errors.old }
 {
     let [name, cache, key, file] = words else {
-        return tell_misuse(USAGE, wrong_in(words, HELP), errors);
+        return tell_wrong(words, errors);
     };
     match name.as_str() {
         "copy" => copy(
@@ -50,7 +57,7 @@ fn run_filed<S: Reasons, C: Clock, N: Names, W: Write, E: Write>(
             output,
             errors,
         ),
-        _ => tell_misuse(USAGE, wrong_in(words, HELP), errors),
+        _ => tell_wrong(words, errors),
     }
 }
 

@@ -3,7 +3,7 @@ use Rattle.std.proofs.Common.{ℕ, List, ◌∙◌, subst}
 use Rattle.cacache_store.specs.declared.store.step.Step.TheVariants as steps
 use Rattle.cacache_calls.specs.SingleSteps.{FailsAt}
 use Rattle.cacache_sync.proofs.content.StepAnswers.{refused_fails}
-use Rattle.cacache_keep.proofs.NewBuckets.Rewrites.{read_refused}
+use Rattle.cacache_program.proofs.Refused.{read_refused}
 use Rattle.cacache_program.proofs.keep.collecting.read.Goals as goal
 
 pub returns-clause-stops : goal.returns-clause-stops
