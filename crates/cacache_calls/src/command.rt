@@ -246,11 +246,6 @@ impl Insert {
 }
 
 impl Command {
-    /// Whether the call walks through folders.
-    pub fn walks(&self) -> bool {
-        matches!(self, Command::Ls | Command::Clear)
-    }
-
     /// A copy that shares the bytes of the original.
     pub fn copy(&self) -> Result<Command, AllocError>
         ensures { IfOk result (λ command. command ≡ self.now) }

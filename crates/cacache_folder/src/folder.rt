@@ -155,6 +155,15 @@ impl<Y: System + AllocGlobal + Clone + Drop> Store for SystemStore<Y> {
         answer
     }
 
+    /// Holds the folders of walks open from now on.
+    fn begin_walks(&mut self)
+        ensures logged { log_of (Y.calls self.new.began.value) self.new.log.items
+            ≡ log_of (Y.calls self.old.began.value) self.old.log.items }
+        ensures calls { Y.calls self.new.runner.system ≡ Y.calls self.old.runner.system }
+    {
+        self.runner.system.begin_walks();
+    }
+
     /// Closes the folders that walks hold open.
     fn end_walks(&mut self)
         ensures logged { log_of (Y.calls self.new.began.value) self.new.log.items

@@ -60,19 +60,22 @@ pub fn drive<S: Store>(store: &mut S, job: Job<S::File, S::Temp>) -> Reply
     go_on(store, alloc, Ok(phase))
 }
 
-/// Makes the steps of a call until it is over, and then ends its walk if it made one.
+/// Makes the steps of a call until it is over. That of a clearing begins a walk before them, and ends it after them.
 fn finish<S: Store>(
     store: &mut S,
     alloc: Global,
     phase: errors::Result<Phase<S::File, S::Temp>>,
-    walks: bool,
+    clears: bool,
 ) -> Reply
     requires { (s : State) × Leads S.File.seen S.Temp.seen phase s }
     ensures { (s : State) → Leads S.File.seen S.Temp.seen phase s
         → Ran s (plain_reply result) (S.log store.old) (S.log store.new) }
 {
+    if clears {
+        store.begin_walks();
+    }
     let reply = go_on(store, alloc, phase);
-    if walks {
+    if clears {
         store.end_walks();
     }
     reply
@@ -107,7 +110,7 @@ pub fn call<S: Store, C, N>(
     ensures base { env.new.base ≡ env.old.base }
 {
     form_command(&command);
-    let walks = command.walks();
+    let clears = matches!(command, Command::Clear);
     let phase = open(env.alloc, cache, env.base.as_str(), number, command);
-    finish(&mut env.store, env.alloc, phase, walks)
+    finish(&mut env.store, env.alloc, phase, clears)
 }

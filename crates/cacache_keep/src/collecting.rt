@@ -72,6 +72,7 @@ pub fn collect<S: Store, C: Clock, N: Names>(
     ensures names { env.new.names ≡ env.old.names }
     ensures base { env.new.base ≡ env.old.base }
 {
+    env.store.begin_walks();
     let answer = collect_open(env, cache);
     env.store.end_walks();
     answer
@@ -240,6 +241,7 @@ impl<'a> CollectOpts<'a> {
         ensures base { env.new.base ≡ env.old.base }
     {
         let limit = limit_by(&mut env.clock, self.grace);
+        env.store.begin_walks();
         let answer = collect_old(env, self, limit, cache);
         env.store.end_walks();
         answer

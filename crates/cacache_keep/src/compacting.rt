@@ -158,6 +158,7 @@ impl CompactOpts {
         ensures clock { env.new.clock ≡ env.old.clock }
         ensures base { env.new.base ≡ env.old.base }
     {
+        env.store.begin_walks();
         let answer = compact_open(env, self.durable, cache);
         env.store.end_walks();
         answer

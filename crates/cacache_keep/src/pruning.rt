@@ -221,6 +221,7 @@ impl CollectOpts<'_> {
     {
         let limit = limit_by(&mut env.clock, self.grace);
         let opts = self.odd(OddLines::Refuse);
+        env.store.begin_walks();
         let answer = prune_old(env, opts, limit, cache, limits);
         env.store.end_walks();
         answer

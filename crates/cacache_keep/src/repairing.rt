@@ -89,6 +89,7 @@ pub fn repair_with<S: Store, C: Clock, N: Names>(
     ensures names { env.new.names ≡ env.old.names }
     ensures base { env.new.base ≡ env.old.base }
 {
+    env.store.begin_walks();
     let answer = repair_open(env, cache, odd);
     env.store.end_walks();
     answer

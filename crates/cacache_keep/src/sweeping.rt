@@ -221,6 +221,7 @@ pub fn sweep<S: Store, C: Clock, N: Names>(env: &mut Env<S, C, N>, cache: &str) 
     ensures names { env.new.names ≡ env.old.names }
     ensures base { env.new.base ≡ env.old.base }
 {
+    env.store.begin_walks();
     let answer = sweep_open(env, cache);
     env.store.end_walks();
     answer

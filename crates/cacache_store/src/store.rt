@@ -44,8 +44,14 @@ pub trait Store: Drop {
             (plain_step Self.File.seen Self.Temp.seen step)
             (plain_answer Self.File.seen Self.Temp.seen result) };
 
-    /// Ends the walks through folders that calls made: the store closes what it held open for them. A call that lists
-    /// folders ends its walk when it is over. This is no step, and the log stays as it was.
+    /// Begins the walks of a call that changes what it finds in them: from now on the store may hold folders open, so that
+    /// no link leads a change elsewhere. This is no step, and the log stays as it was. Most stores have nothing to do here.
+    fn begin_walks(&mut self)
+        ensures logged { log self.new ≡ log self.old }
+    {}
+
+    /// Ends the walks through folders that calls made: the store closes what it held open for them. This is no step, and
+    /// the log stays as it was.
     fn end_walks(&mut self)
         ensures logged { log self.new ≡ log self.old };
 }

@@ -64,6 +64,19 @@ impl<R: Files + AllocGlobal> Alloc for Host<R> {
     }
 }
 
+impl<R: Files> Host<R>
+where
+    R::File: AsRawFd,
+{
+    /// Refuses to open what a walk found to be neither file, folder nor link, and still is: that could wait for ever.
+    fn refuse_odd(&self, path: &str, there: &str) -> io::Result<()> {
+        if self.walks.is_odd(path) && leads_to_odd(&self.rt, there) {
+            return Err(io::Error::from(ErrorKind::Unsupported));
+        }
+        Ok(())
+    }
+}
+
 /// The bits of a mode that say who may do what. The others say what kind of thing it is.
 const RIGHTS: u32 = 0o7777;
 
@@ -126,7 +139,7 @@ fn open_plain<R: Files>(rt: &R, path: &str) -> io::Result<R::File> {
     )
 }
 
-/// Whether the path, at which is a link, leads to what is neither file nor folder.
+/// Whether the path leads to what is neither file nor folder.
 fn leads_to_odd<R: Files>(rt: &R, path: &str) -> bool {
     match rt.metadata(path) {
         Ok(metadata) => is_odd(&metadata),
@@ -157,9 +170,10 @@ where
     ghost calls = { λ _. None };
 
     fn open_to_read(&mut self, path: &str) -> io::Result<R::File> {
-        self.walks.refuse_odd(path)?;
         let near = self.walks.near(path)?;
-        File::open(&self.rt, by(path, &near))
+        let there = by(path, &near);
+        self.refuse_odd(path, there)?;
+        File::open(&self.rt, there)
     }
 
     fn create_new(&mut self, path: &str, mode: u32) -> io::Result<R::File> {
@@ -172,13 +186,15 @@ where
     }
 
     fn open_to_append(&mut self, path: &str) -> io::Result<R::File> {
-        self.walks.refuse_odd(path)?;
         match self.walks.within(&self.rt, path)? {
             Some(within) => open_plain(&self.rt, within.as_str()),
-            None => File::options()
-                .append(true)
-                .create(true)
-                .open(&self.rt, path),
+            None => {
+                self.refuse_odd(path, path)?;
+                File::options()
+                    .append(true)
+                    .create(true)
+                    .open(&self.rt, path)
+            }
         }
     }
 
@@ -233,7 +249,7 @@ where
         let near = self.walks.near(path)?;
         let there = by(path, &near);
         let metadata = self.rt.symlink_metadata(there)?;
-        let is_led = metadata.is_symlink() && self.walks.are_held();
+        let is_led = metadata.is_symlink() && self.walks.are_listed();
         if is_odd(&metadata) || is_led && leads_to_odd(&self.rt, there) {
             self.walks.note_odd(path)?;
         }
@@ -288,7 +304,11 @@ where
         random_bits(&self.rt)
     }
 
+    fn begin_walks(&mut self) {
+        self.walks.begin();
+    }
+
     fn end_walks(&mut self) {
-        self.walks.close();
+        self.walks.end();
     }
 }

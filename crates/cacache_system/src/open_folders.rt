@@ -1,9 +1,9 @@
 //! Folders that walks hold open, so that no link leads a change out of them.
 //!
 //! A walk lists a folder, then those below it, and may remove what it finds, append to it or put a file in its place.
-//! Meanwhile somebody who may write there can put a link in the place of a folder. So the folder at which a walk begins
-//! is opened once, and each one below it in the one above. A call goes to `/proc/self/fd/N/name`, where `N` is the
-//! number of the open folder: that leads into it, whatever stands at its path by then.
+//! Meanwhile somebody who may write there can put a link in the place of a folder. So the folder at which such a walk
+//! begins is opened once, and each one below it in the one above. A call goes to `/proc/self/fd/N/name`, where `N` is the
+//! number of the open folder: that leads into it, whatever stands at its path by then. Walks that only look go by paths.
 use crate::held::{Held, Node, held_as, joined, leads, no_folder, rest_below};
 use cacache_core::keeping::let_go;
 use cacache_core::paths::{CONTENT_AREA, INDEX_AREA};
@@ -23,6 +23,10 @@ const BELOW: usize = 4;
 /// The folders that walks hold open.
 pub(crate) struct OpenFolders<R: Files> {
     alloc: Global,
+    /// Whether the walks of now hold folders.
+    holds: bool,
+    /// Whether a walk is under way.
+    lists: bool,
     /// In the order in which they were opened.
     held: Vec<Held<R::File>>,
     /// Paths at which the walks found neither file, folder nor link.
@@ -33,6 +37,8 @@ impl<R: Files> Drop for OpenFolders<R> {
     fn drop(self) {
         let OpenFolders {
             alloc: _,
+            holds: _,
+            lists: _,
             held: _held,
             odd: _odd,
         } = self;
@@ -147,13 +153,22 @@ where
     pub(crate) fn new(alloc: Global) -> OpenFolders<R> {
         OpenFolders {
             alloc,
+            holds: false,
+            lists: false,
             held: Vec::new(alloc),
             odd: Vec::new(alloc),
         }
     }
 
+    /// Holds the folders of walks from now on.
+    pub(crate) fn begin(&mut self) {
+        self.holds = true;
+    }
+
     /// Closes all, since the walks are over.
-    pub(crate) fn close(&mut self) {
+    pub(crate) fn end(&mut self) {
+        self.holds = false;
+        self.lists = false;
         self.held.clear();
         self.odd.clear();
     }
@@ -165,7 +180,7 @@ where
 
     /// Keeps that there is neither file, folder nor link at the path, if a walk is under way.
     pub(crate) fn note_odd(&mut self, path: &str) -> Result<(), AllocError> {
-        if self.held.is_empty() {
+        if !self.lists || self.is_odd(path) {
             return Ok(());
         }
         self.odd.push(String::from_str(self.alloc, path)?)?;
@@ -173,18 +188,13 @@ where
     }
 
     /// Whether a walk is under way.
-    pub(crate) fn are_held(&self) -> bool {
-        !self.held.is_empty()
+    pub(crate) fn are_listed(&self) -> bool {
+        self.lists
     }
 
-    /// Refuses to open what is neither file, folder nor link, which could wait for ever.
-    pub(crate) fn refuse_odd(&self, path: &str) -> io::Result<()> {
-        for odd in self.odd.as_slice() {
-            if odd.as_str() == path {
-                return Err(io::Error::from(ErrorKind::Unsupported));
-            }
-        }
-        Ok(())
+    /// Whether a walk found neither file, folder nor link at the path.
+    pub(crate) fn is_odd(&self, path: &str) -> bool {
+        self.odd.as_slice().iter().any(|odd| odd.as_str() == path)
     }
 
     /// The place of the innermost folder that is held above the path.
@@ -317,7 +327,7 @@ where
     }
 
     /// Opens a folder at which a walk begins, which is held from now on. A link is followed only if the path ends in a `/`.
-    fn begin(&mut self, rt: &R, path: &str, folder: &str) -> io::Result<()> {
+    fn begin_at(&mut self, rt: &R, path: &str, folder: &str) -> io::Result<()> {
         let named = folder_unless_led(rt, path)?;
         let opened = open_named(rt, self.alloc, folder, named);
         self.push(held_as(self.alloc, folder, true, opened)?)
@@ -331,7 +341,7 @@ where
         };
         let other = joined(self.alloc, before, other)?;
         if !self.is_first(other.as_str()) {
-            let _unless_it_fails = self.begin(rt, other.as_str(), other.as_str());
+            let _unless_it_fails = self.begin_at(rt, other.as_str(), other.as_str());
         }
         Ok(())
     }
@@ -377,6 +387,16 @@ where
 
     /// Opens a folder to list it. Below a folder that is held no link is followed. Elsewhere a walk begins.
     pub(crate) fn list(&mut self, rt: &R, path: &str) -> io::Result<R::Dir> {
+        self.lists = true;
+        if self.holds {
+            self.list_held(rt, path)
+        } else {
+            rt.open_dir(path)
+        }
+    }
+
+    /// Opens a folder to list it, and holds the one at which a walk begins.
+    fn list_held(&mut self, rt: &R, path: &str) -> io::Result<R::Dir> {
         let folder = path.trim_end_matches('/');
         if self.is_first(folder) {
             match self.stays(rt, folder) {
@@ -393,7 +413,7 @@ where
                 return rt.open_dir(there.as_str());
             }
             self.hold_other(rt, folder)?;
-            self.begin(rt, path, folder)?;
+            self.begin_at(rt, path, folder)?;
         }
         self.list_first(rt, folder)
     }

@@ -154,8 +154,13 @@ pub trait System {
     fn random(&mut self) -> io::Result<u64>
         ensures unlogged { calls self.new ≡ calls self.old };
 
-    /// Closes what is held open for walks. A system may hold the folder that it opened to be listed, and those below it,
-    /// and ask for what is in them there, wherever their paths lead by then. This ends it.
+    /// Begins walks: until `end_walks` a system may hold each folder that it opens to be listed, and those below it, and
+    /// ask for what is in them there, wherever their paths lead by then.
+    fn begin_walks(&mut self)
+        ensures unlogged { calls self.new ≡ calls self.old }
+    {}
+
+    /// Closes what is held open for walks.
     fn end_walks(&mut self)
         ensures unlogged { calls self.new ≡ calls self.old };
 }

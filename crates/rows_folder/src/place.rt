@@ -63,6 +63,10 @@ impl<Y: System + AllocGlobal + Clone + Drop> Stand<Y> {
         if words == "remove" {
             return removed(alloc, self.held.temp.take());
         }
+        if words == "begin" {
+            self.store.begin_walks();
+            return Ok(String::from_str(alloc, "begun")?);
+        }
         if words == "end" {
             self.store.end_walks();
             return Ok(String::from_str(alloc, "ended")?);

@@ -136,7 +136,7 @@ impl Files for Watched {
     fn symlink_metadata(&self, path: &str) -> io::Result<Metadata> {
         self.asked("symlink_metadata", &[path])?;
         failing(self.ways.fault)?;
-        let is_special = self.shown(path)?.contains("/special//");
+        let is_special = self.shown(path)?.contains("/special/");
         self.host
             .symlink_metadata(if is_special { "/dev/null" } else { path })
     }

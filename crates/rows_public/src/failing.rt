@@ -45,6 +45,10 @@ impl<'a, S: Store> Store for Failing<'a, S> {
         }
     }
 
+    fn begin_walks(&mut self) {
+        self.store.begin_walks();
+    }
+
     fn end_walks(&mut self) {
         self.store.end_walks();
     }

@@ -150,8 +150,8 @@ pub fn abandon<S: Store>(alloc: Global, store: &mut S, writer: Writer<S::Temp>) 
 /// Hands all of the data to the writer's file, as `write_all` does, and gives the writer back. If a write fails, the
 /// file is removed.
 ///
-/// `IoError` has the fault of that write. Whether the file could be removed isn't reported. Contents and index stay
-/// as they were.
+/// `IoError` has the fault of a write to some file of this type. Whether the file could be removed isn't reported.
+/// Contents and index stay as they were.
 #[tactic(auto, using(crate::proofs::content::Writes::given_up_tries, crate::proofs::content::Writes::given_up_earned))]
 pub fn write_or_abandon<S: Store>(
     alloc: Global,

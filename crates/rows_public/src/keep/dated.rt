@@ -62,6 +62,10 @@ impl<S: Store> Store for Dated<S> {
         Answer::Failed(Fault::Device)
     }
 
+    fn begin_walks(&mut self) {
+        self.store.begin_walks();
+    }
+
     fn end_walks(&mut self) {
         self.store.end_walks();
     }

@@ -12,7 +12,7 @@ returns-clause-prunes g c =
     let old = g.S.Store.log c.args.env.now.store in
     let mid = g.S.Store.log c.prune_old-answer.new.env.store in
     let first : LimitedFirst g.C.Clock.given c.args.self.grace c.args.env.now.clock c.limit_by-limit.result = (c.limit_by-limit.new.clock, c.limit_by-limit.ensures) in
-    rw c.end_walks.ensures.logged (value_so c.prune_old-answer.result (λ p it. (limit, first, subst (λ t. PrunesAs c.args.limits t limit site p old mid) told it)) c.prune_old-answer.ensures.prunes)
+    rw c.end_walks.ensures.logged (value_so c.prune_old-answer.result (λ p it. (limit, first, subst (λ t. PrunesAs c.args.limits t limit site p old mid) told it)) (rw c.begin_walks.ensures.logged at c.prune_old-answer.ensures.prunes))
 
 pub returns-clause-stops : goal.returns-clause-stops
 returns-clause-stops g c =
@@ -20,4 +20,4 @@ returns-clause-stops g c =
     let old = g.S.Store.log c.args.env.now.store in
     let mid = g.S.Store.log c.prune_old-answer.new.env.store in
     let same = ap (λ (o : CollectOpts). o.durable) c.odd-opts.ensures in
-    rw c.end_walks.ensures.logged (subst (λ d. IfErr c.prune_old-answer.result (λ e. StopsPruning c.args.limits d site e old mid)) same c.prune_old-answer.ensures.stops)
+    rw c.end_walks.ensures.logged (subst (λ d. IfErr c.prune_old-answer.result (λ e. StopsPruning c.args.limits d site e old mid)) same (rw c.begin_walks.ensures.logged at c.prune_old-answer.ensures.stops))
