@@ -60,12 +60,13 @@ pub fn drive<S: Store>(store: &mut S, job: Job<S::File, S::Temp>) -> Reply
     go_on(store, alloc, Ok(phase))
 }
 
-/// Makes the steps of a call until it is over. That of a clearing begins a walk before them, and ends it after them.
+/// Makes the steps of a call until it is over, and then ends its walk if it clears or lists. A clearing begins its walk.
 fn finish<S: Store>(
     store: &mut S,
     alloc: Global,
     phase: errors::Result<Phase<S::File, S::Temp>>,
     clears: bool,
+    lists: bool,
 ) -> Reply
     requires { (s : State) × Leads S.File.seen S.Temp.seen phase s }
     ensures { (s : State) → Leads S.File.seen S.Temp.seen phase s
@@ -75,7 +76,7 @@ fn finish<S: Store>(
         store.begin_walks();
     }
     let reply = go_on(store, alloc, phase);
-    if clears {
+    if clears || lists {
         store.end_walks();
     }
     reply
@@ -111,6 +112,7 @@ pub fn call<S: Store, C, N>(
 {
     form_command(&command);
     let clears = matches!(command, Command::Clear);
+    let lists = matches!(command, Command::Ls);
     let phase = open(env.alloc, cache, env.base.as_str(), number, command);
-    finish(&mut env.store, env.alloc, phase, clears)
+    finish(&mut env.store, env.alloc, phase, clears, lists)
 }
