@@ -2,6 +2,7 @@
 ghost use Rattle.std.specs.Prelude.{None};
 ghost use Rattle.cacache.specs.Stores.{Fits, Logs, plain_step, plain_answer};
 
+use crate::walks::Walks;
 use cacache::errors::Fault;
 use cacache::store::{Answer, Step, Store};
 use cacache_core::keeping::let_go;
@@ -16,6 +17,8 @@ pub(crate) struct Failing<'a, S> {
     pub(crate) fails: usize,
     /// Why it fails; None if memory is refused.
     pub(crate) fault: Option<Fault>,
+    /// Nothing changes in walks that weren't begun.
+    pub(crate) walks: Walks,
 }
 
 impl<'a, S: Store> Store for Failing<'a, S> {
@@ -33,6 +36,10 @@ impl<'a, S: Store> Store for Failing<'a, S> {
     {
         let number = self.asked;
         self.asked = number.saturating_add(1);
+        if self.walks.refuse(&step) {
+            let_go(step);
+            return Answer::Failed(Fault::Device);
+        }
         if number != self.fails {
             return self.store.step(step);
         }
@@ -46,10 +53,12 @@ impl<'a, S: Store> Store for Failing<'a, S> {
     }
 
     fn begin_walks(&mut self) {
+        self.walks.begin();
         self.store.begin_walks();
     }
 
     fn end_walks(&mut self) {
+        self.walks = Walks::new();
         self.store.end_walks();
     }
 }

@@ -29,6 +29,7 @@ mod row;
 mod streams;
 mod told;
 mod trials;
+mod walks;
 mod words;
 mod writers;
 

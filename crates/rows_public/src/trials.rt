@@ -2,6 +2,7 @@
 use crate::acts::made;
 use crate::failing::Failing;
 use crate::row::Row;
+use crate::walks::Walks;
 use cacache::errors::Fault;
 use cacache::store::MemStore;
 use cacache_core::keeping::let_go;
@@ -109,6 +110,7 @@ fn failed(
         asked: 0,
         fails,
         fault,
+        walks: Walks::new(),
     };
     let mut over = on(env.alloc, failing, env.base.as_str())?;
     let line = made(&mut over, row)?;

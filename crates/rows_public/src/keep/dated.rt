@@ -1,8 +1,10 @@
-//! A store whose files all changed at one time, and on which one kind of step may fail.
+//! A store whose files all changed at one time, and on which one kind of step may fail. In walks that weren't begun nothing
+//! changes.
 ghost use Rattle.std.specs.{Prelude.{None, Some, if◌then◌else◌, is_some}, declared.io.ErrorKind.{ErrorKind}};
 ghost use Rattle.cacache.specs.Stores.{Fits, Logs, plain_step, plain_answer};
 
 use crate::keep::stuck::Kind;
+use crate::walks::Walks;
 use cacache::env::Reasons;
 use cacache::errors::Fault;
 use cacache::store::{Answer, Step, Store};
@@ -20,6 +22,7 @@ pub(crate) struct Dated<S> {
     pub(crate) stuck: Option<Kind>,
     /// How many of these are still done, before one fails.
     pub(crate) done: u32,
+    walks: Walks,
 }
 
 impl<S> Dated<S> {
@@ -30,6 +33,7 @@ impl<S> Dated<S> {
             changed: Err(Fault::Unsupported),
             stuck: None,
             done: 0,
+            walks: Walks::new(),
         }
     }
 }
@@ -47,6 +51,10 @@ impl<S: Store> Store for Dated<S> {
         ensures logged { Logs None None (plain_step S.File.seen S.Temp.seen step)
             (plain_answer S.File.seen S.Temp.seen result) }
     {
+        if self.walks.refuse(&step) {
+            let_go(step);
+            return Answer::Failed(Fault::Device);
+        }
         let is_stuck = match self.stuck {
             Some(kind) => kind.is_of(&step),
             None => false,
@@ -63,10 +71,12 @@ impl<S: Store> Store for Dated<S> {
     }
 
     fn begin_walks(&mut self) {
+        self.walks.begin();
         self.store.begin_walks();
     }
 
     fn end_walks(&mut self) {
+        self.walks = Walks::new();
         self.store.end_walks();
     }
 }
