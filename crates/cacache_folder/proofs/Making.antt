@@ -106,36 +106,36 @@ prepares_not call before error old new makes =
     λ s. calls_one (preparing call (before s)) (over (Failed (error_kind error))) call (Failed (error_kind error)) old new makes refl refl
 
 -- a file that is replaced was found
-pub keeps : (number : ℕ) (temp : List ℕ) (b : Bool) (path : List ℕ) (info : FileInfo) (r : Result (Unit {0}) Error) (old mid new : Log)
-    → MakesCall old mid (Stat path) (Info info) → GoesBefore (give number temp b info) r mid new → GoesBefore (keeping number temp b path) r old new
-keeps number temp b path info r old mid new makes goes =
-    λ s. calls_on (keeping number temp b path s) (give number temp b info s) (onward (λ _. s) r) old mid new
-    (calls_one (keeping number temp b path s) (give number temp b info s) (Stat path) (Info info) old mid makes refl refl) (goes s)
+pub keeps : (number : ℕ) (b : Bool) (path : List ℕ) (info : FileInfo) (r : Result (Unit {0}) Error) (old mid new : Log)
+    → MakesCall old mid (Stat path) (Info info) → GoesBefore (give number b info) r mid new → GoesBefore (keeping number b path) r old new
+keeps number b path info r old mid new makes goes =
+    λ s. calls_on (keeping number b path s) (give number b info s) (onward (λ _. s) r) old mid new
+    (calls_one (keeping number b path s) (give number b info s) (Stat path) (Info info) old mid makes refl refl) (goes s)
 
 abbrev absent_or : Bool → ErrorKind → Stage → Stage
 absent_or b why s = if b then s else over (Failed why)
 
 -- it can't be looked at
-pub keeps_not : (number : ℕ) (temp : List ℕ) (b : Bool) (path : List ℕ) (error : Error) (old new : Log) → MakesCall old new (Stat path) (Failed (error_kind error))
-    → is_absent (error_kind error) ≡ false → GoesBefore {A = Unit {0}} (keeping number temp b path) (Err error) old new
-keeps_not number temp b path error old new makes is =
-    λ s. calls_one (keeping number temp b path s) (over (Failed (error_kind error))) (Stat path) (Failed (error_kind error)) old new makes refl
+pub keeps_not : (number : ℕ) (b : Bool) (path : List ℕ) (error : Error) (old new : Log) → MakesCall old new (Stat path) (Failed (error_kind error))
+    → is_absent (error_kind error) ≡ false → GoesBefore {A = Unit {0}} (keeping number b path) (Err error) old new
+keeps_not number b path error old new makes is =
+    λ s. calls_one (keeping number b path s) (over (Failed (error_kind error))) (Stat path) (Failed (error_kind error)) old new makes refl
     (ap (λ (x : Bool). absent_or x (error_kind error) s) is)
 
 -- a temporary file replaces one that was read
 pub rewrites_kept : (temp : NumberedTemp) (b : Bool) (path : List ℕ) (value : Unit {0}) (r : Result (Unit {0}) Error) (old mid new : Log)
-    → GoesBefore (keeping temp.number temp.path b path) (Ok value) old mid → MakesCall mid new (Rename temp.path path) (said (λ _. Done) r)
+    → GoesBefore (keeping temp.number b path) (Ok value) old mid → MakesCall mid new (Rename temp.path path) (said (λ _. Done) r)
     → Rewrites temp b path r old new
 rewrites_kept temp b path value r old mid new keeps_it makes =
     let s : Stage = only (Rename temp.path path) in
     let end : CallResult = said (λ _. Done) r in
-    calls_run (keeping temp.number temp.path b path s) s end old mid new (keeps_it s) (run_one s (Rename temp.path path) end end mid new makes refl refl)
+    calls_run (keeping temp.number b path s) s end old mid new (keeps_it s) (run_one s (Rename temp.path path) end end mid new makes refl refl)
 
 pub rewrites_not : (temp : NumberedTemp) (b : Bool) (path : List ℕ) (error : Error) (old new : Log)
-    → GoesBefore {A = Unit {0}} (keeping temp.number temp.path b path) (Err error) old new → Rewrites {A = Unit {0}} temp b path (Err error) old new
+    → GoesBefore {A = Unit {0}} (keeping temp.number b path) (Err error) old new → Rewrites {A = Unit {0}} temp b path (Err error) old new
 rewrites_not temp b path error old new keeps_not =
     let s : Stage = only (Rename temp.path path) in
-    calls_over (keeping temp.number temp.path b path s) _ (Failed (error_kind error)) old new (keeps_not s) refl
+    calls_over (keeping temp.number b path s) _ (Failed (error_kind error)) old new (keeps_not s) refl
 
 -- so it is put, or without more
 pub persists_kept : (temp : NumberedTemp) (b : Bool) (path : List ℕ) (r : Result (Unit {0}) Error) (old new : Log) → Rewrites temp b path r old new → Persists temp path r old new

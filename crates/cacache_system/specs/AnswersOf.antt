@@ -25,7 +25,7 @@ make_dirs hint path = standing path
 -- a temporary file is moved; one that replaces a file that was read keeps the owner, the group and the mode of that
 abbrev pub persist : Hint → NumberedTemp → List ℕ → Stage
 persist (rewrites synced) temp path =
-    keeping temp.number temp.path synced path (only (asks.Rename temp.path path))
+    keeping temp.number synced path (only (asks.Rename temp.path path))
 persist hint temp path = only (asks.Rename temp.path path)
 
 -- where the numbers of the names start that a copy may try

@@ -52,7 +52,7 @@ pub data Stage : Type 0 where
   making : Bool → List ℕ → List (List ℕ) → Stage
   confirming : ErrorKind → List ℕ → List (List ℕ) → Stage
   preparing : SystemCall → Stage → Stage
-  keeping : ℕ → List ℕ → Bool → List ℕ → Stage → Stage
+  keeping : ℕ → Bool → List ℕ → Stage → Stage
   opening_folder : List ℕ → Stage
   following : List ℕ → Stage
   reading_names : Bool → Reader → List Name → Stage
@@ -112,7 +112,7 @@ wants (standing path) = Some (Stat path)
 wants (making again path todo) = Some (MakeFolder path)
 wants (confirming why path todo) = Some (Stat path)
 wants (preparing call s) = Some call
-wants (keeping number temp synced path s) = Some (Stat path)
+wants (keeping number synced path s) = Some (Stat path)
 wants (opening_folder path) = Some (OpenFolder path)
 wants (following path) = Some (OpenFolder (with_slash path))
 wants (reading_names again r found) = Some (ReadNames r.number 4096)
@@ -227,9 +227,9 @@ abbrev pub give_mode : ℕ → Bool → ℕ → Stage → Stage
 give_mode number synced mode s = preparing (SetMode number mode) (sync_again synced number s)
 
 -- It gets the owner, the group and the mode that another file has. The mode comes last: a new owner takes bits of it away.
-abbrev pub give : ℕ → List ℕ → Bool → FileInfo → Stage → Stage
-give number temp synced info s =
-    preparing (SetOwner temp info.owner info.group) (give_mode number synced info.mode s)
+abbrev pub give : ℕ → Bool → FileInfo → Stage → Stage
+give number synced info s =
+    preparing (SetOwner number info.owner info.group) (give_mode number synced info.mode s)
 
 -- ---- listings
 
@@ -332,8 +332,8 @@ after (confirming why path todo) (Info info) = if_folder info.kind kind.AlreadyE
 after (confirming why path todo) (Failed other) =
     over (Failed (if is_absent other then why else other))
 after (preparing call s) Done = s
-after (keeping number temp synced path s) (Info info) = give number temp synced info s
-after (keeping number temp synced path s) (Failed why) =
+after (keeping number synced path s) (Info info) = give number synced info s
+after (keeping number synced path s) (Failed why) =
     if is_absent why then s else over (Failed why)
 after (opening_folder path) (Opened number) = more_names (reader number path) []
 after (opening_folder path) (Failed why) = unopened why path

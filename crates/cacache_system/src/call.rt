@@ -25,8 +25,8 @@ pub enum SystemCall {
     ReadNames(u64, usize),
     /// Waits until the file or folder would outlast a loss of power.
     Sync(u64),
-    /// Gives what stands at a path, be it a link, to this owner and this group.
-    SetOwner(Text, u32, u32),
+    /// Gives an open file to this owner and this group.
+    SetOwner(u64, u32, u32),
     /// Gives an open file this mode.
     SetMode(u64, u32),
     /// Asks what the open file is.

@@ -67,10 +67,11 @@ impl<F: AsRawFd> Held<F> {
     where
         F: Drop,
     {
-        let number = file.as_raw_fd();
+        let mut inside = open_path(alloc, &file)?;
+        inside.push('/')?;
         Ok(Held {
             path: String::from_str(alloc, path)?,
-            inside: format!(in alloc; "/proc/self/fd/{number}/")?,
+            inside,
             is_first,
             node: None,
             _file: file,
@@ -114,6 +115,12 @@ impl<F> Held<F> {
             Err(no_folder())
         }
     }
+}
+
+/// A path that leads to what is open.
+pub(crate) fn open_path<F: AsRawFd>(alloc: Global, open: &F) -> Result<String, AllocError> {
+    let number = open.as_raw_fd();
+    format!(in alloc; "/proc/self/fd/{number}")
 }
 
 /// The folder with this path, if it was opened.

@@ -227,9 +227,10 @@ where
         file.sync_all()
     }
 
-    fn set_owner(&mut self, path: &str, owner: u32, group: u32) -> io::Result<()> {
-        let within = self.walks.within(&self.rt, path)?;
-        self.rt.lchown(by(path, &within), Some(owner), Some(group))
+    // The kit's call takes a path. That of the open file leads to it, whatever stands at its name by now.
+    fn set_owner(&mut self, file: &R::File, owner: u32, group: u32) -> io::Result<()> {
+        let path = self.walks.path_of(file)?;
+        self.rt.chown(path.as_str(), Some(owner), Some(group))
     }
 
     fn set_mode(&mut self, file: &R::File, mode: u32) -> io::Result<()> {

@@ -4,7 +4,7 @@
 //! Meanwhile somebody who may write there can put a link in the place of a folder. So the folder at which such a walk
 //! begins is opened once, and each one below it in the one above. A call goes to `/proc/self/fd/N/name`, where `N` is the
 //! number of the open folder: that leads into it, whatever stands at its path by then. Walks that only look go by paths.
-use crate::held::{Held, Node, held_as, joined, leads, no_folder, rest_below};
+use crate::held::{Held, Node, held_as, joined, leads, no_folder, open_path, rest_below};
 use cacache_core::keeping::let_go;
 use cacache_core::paths::{CONTENT_AREA, INDEX_AREA};
 use std::alloc::{AllocError, Global};
@@ -185,6 +185,11 @@ where
         }
         self.odd.push(String::from_str(self.alloc, path)?)?;
         Ok(())
+    }
+
+    /// A path that leads to an open file.
+    pub(crate) fn path_of(&self, file: &R::File) -> Result<String, AllocError> {
+        open_path(self.alloc, file)
     }
 
     /// Whether a walk is under way.

@@ -80,10 +80,10 @@ pub trait System {
         ensures { MakesCall (calls self.old) (calls self.new) (asks.Sync (number file.now))
             (said (λ _. says.Done) result) };
 
-    /// Gives what stands at a path, be it a link, to this owner and this group.
-    fn set_owner(&mut self, path: &str, owner: u32, group: u32) -> io::Result<()>
-        ensures { MakesCall (calls self.old) (calls self.new) (asks.SetOwner path.now owner group)
-            (said (λ _. says.Done) result) };
+    /// Gives an open file to this owner and this group.
+    fn set_owner(&mut self, file: &Self::File, owner: u32, group: u32) -> io::Result<()>
+        ensures { MakesCall (calls self.old) (calls self.new)
+            (asks.SetOwner (number file.now) owner group) (said (λ _. says.Done) result) };
 
     /// Gives an open file this mode.
     fn set_mode(&mut self, file: &Self::File, mode: u32) -> io::Result<()>

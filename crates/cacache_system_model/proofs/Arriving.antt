@@ -37,21 +37,21 @@ tells_or_fails f said is = absurd (not_true is)
 
 -- a call that gives the file an owner or a mode, or syncs it
 abbrev readies : SystemCall → Bool
-readies (asks.SetOwner path owner group) = true
+readies (asks.SetOwner number owner group) = true
 readies (asks.SetMode number mode) = true
 readies (asks.Sync number) = true
 readies call = false
 
 readies_prepares : (call : SystemCall) → readies call ≡ true → prepares call ≡ true
-readies_prepares (asks.SetOwner path owner group) is = refl
+readies_prepares (asks.SetOwner number owner group) is = refl
 readies_prepares (asks.SetMode number mode) is = refl
 readies_prepares (asks.Sync number) is = refl
 readies_prepares call is = absurd (not_true is)
 
 done_or_fails : (call : SystemCall) (said : CallResult) → readies call ≡ true → has_kind call said ≡ true → (said ≡ says.Done) ⊎ Fails said
-done_or_fails (asks.SetOwner path owner group) says.Done r is = inl refl
-done_or_fails (asks.SetOwner path owner group) (says.Failed why) r is = inr (why, refl)
-done_or_fails (asks.SetOwner path owner group) said r is = absurd (not_true is)
+done_or_fails (asks.SetOwner number owner group) says.Done r is = inl refl
+done_or_fails (asks.SetOwner number owner group) (says.Failed why) r is = inr (why, refl)
+done_or_fails (asks.SetOwner number owner group) said r is = absurd (not_true is)
 done_or_fails (asks.SetMode number mode) says.Done r is = inl refl
 done_or_fails (asks.SetMode number mode) (says.Failed why) r is = inr (why, refl)
 done_or_fails (asks.SetMode number mode) said r is = absurd (not_true is)
@@ -82,7 +82,7 @@ over_none said (x ∷ calls) end runs = absurd (no_call x.call runs.0)
 
 abbrev pub Up : Stage → Stage → Type 0
 Up t (preparing call s) = (readies call ≡ true) × Up t s
-Up t (keeping number temp synced path s) = Up t s
+Up t (keeping number synced path s) = Up t s
 Up t s = s ≡ t
 
 -- the calls led there, or one of them failed
@@ -121,13 +121,13 @@ arrives t (x ∷ calls) (preparing call s) end up kinds runs =
       | inl done ↦ arrives t calls s end up.1 kinds.1 (subst (After (preparing call s) calls end) done runs.1)
       | inr failed ↦ failed_arrives t failed.0 calls end (subst (After (preparing call s) calls end) failed.1 runs.1)
     ])
-arrives t [] (keeping number temp synced path s) end up kinds runs = absurd runs
-arrives t (x ∷ calls) (keeping number temp synced path s) end up kinds runs =
+arrives t [] (keeping number synced path s) end up kinds runs = absurd runs
+arrives t (x ∷ calls) (keeping number synced path s) end up kinds runs =
     let is : x.call ≡ asks.Stat path = same_call (asks.Stat path) x.call runs.0 in
     arrives_first x t calls end (subst (λ (c : SystemCall). prepares c ≡ true) (sym is) refl)
     (elim (stats_or_fails path x.result (in_kind x (asks.Stat path) is kinds.0)) [
-      | inl told ↦ arrives t calls (give number temp synced told.0 s) end (refl, up_gives_mode t s number synced told.0.mode up) kinds.1 (subst (After (keeping number temp synced path s) calls end) told.1 runs.1)
-      | inr failed ↦ absent_arrives t s (is_absent failed.0) failed.0 calls end (arrives t calls s end up kinds.1) (subst (After (keeping number temp synced path s) calls end) failed.1 runs.1)
+      | inl told ↦ arrives t calls (give number synced told.0 s) end (refl, up_gives_mode t s number synced told.0.mode up) kinds.1 (subst (After (keeping number synced path s) calls end) told.1 runs.1)
+      | inr failed ↦ absent_arrives t s (is_absent failed.0) failed.0 calls end (arrives t calls s end up kinds.1) (subst (After (keeping number synced path s) calls end) failed.1 runs.1)
     ])
 arrives t calls s end up kinds runs = at_once t s calls end up runs
 

@@ -7,7 +7,7 @@ use Rattle.std_io.specs.declared.io.kind.ErrorKind.TheVariants as kind
 use Rattle.cacache_system.specs.declared.call.{FileInfo.{FileInfo}, CallResult.{CallResult}}
 use Rattle.cacache_system.specs.declared.call.SystemCall.TheVariants as asks
 use Rattle.cacache_system.specs.declared.call.CallResult.TheVariants as says
-use Rattle.cacache_system_model.specs.{Machine.{Place, under, nameless, OpenFile, node_of, SyncedNode, Machine, gone, moved, grown, placed, ChangesPlaces, Grows, ShowsPlace, with_sync, fixes, Became, IsRefused, ChangesTree, OpensIf, with_file, unread, is_regular, Describes, ShowsNode, ShowsEnd, ReadsFile, GivesOwner, link_fault, LinksNode, found_bytes, CopiesBytes, CopiesTo, MovesNode, with_empty, Spells, SpellsEnd}, Calls.{brought}, Folders.{GivesNames, ended, HasLeft, OpensNames, OpensFolder, ReadsSome}, Laws.{HasRoom, CallsCanGoWell}}
+use Rattle.cacache_system_model.specs.{Machine.{Place, under, nameless, OpenFile, node_of, SyncedNode, Machine, gone, moved, grown, placed, ChangesPlaces, Grows, ShowsPlace, with_sync, fixes, Became, IsRefused, ChangesTree, OpensIf, with_file, unread, is_regular, Describes, ShowsNode, ShowsEnd, ReadsFile, link_fault, LinksNode, found_bytes, CopiesBytes, CopiesTo, MovesNode, with_empty, Spells, SpellsEnd}, Calls.{brought}, Folders.{GivesNames, ended, HasLeft, OpensNames, OpensFolder, ReadsSome}, Laws.{HasRoom, CallsCanGoWell}}
 use Rattle.cacache_system_model.proofs.Saying.{CanSay, a_folder, Sayable, place_say, standing_say, found_say, writable_say, free_say, replaceable_say, removable_say, emptied_say, file_say, LinkSayable, linked_say}
 use Rattle.cacache_store.specs.declared.store.answer.Name.{Name}
 
@@ -157,10 +157,6 @@ can_spell : (m : Machine) (ends : Result Names Fault) → Sayable ends → IfOk 
 can_spell m (Ok names) can (text, spells) = (says.Bytes text, m, (text, refl, spells, refl))
 can_spell m (Err fault) can spelt = can_refuse fault m can
 
-can_own : (m : Machine) (ends : Result Names Fault) → Sayable ends → Can (GivesOwner ends m)
-can_own m (Ok names) can = (says.Done, m, (refl, refl))
-can_own m (Err fault) can = can_refuse fault m can
-
 pub calls_can_go_well : CallsCanGoWell
 calls_can_go_well most m (asks.OpenToRead path) room spelt = can_open m (found m.tree path) (λ names. m.tree) room (found_say m.tree path)
 calls_can_go_well most m (asks.CreateNew path mode) room spelt = can_open m (free m.tree path) (λ names. put m.tree names (File [])) room (free_say m.tree path)
@@ -173,7 +169,8 @@ calls_can_go_well most m (asks.Write number bytes) room spelt = search (rules, o
 calls_can_go_well most m (asks.Sync number) room spelt =
     of_open (m.files number) (m.folders number) (λ file said after. (said ≡ says.Done) × Became m m.tree m.files (with_sync file.place (fixes m.synced (node_of m.tree file.place)) m.synced) after) m
     (λ file. (says.Done, becoming m m.tree m.files (with_sync file.place (fixes m.synced (node_of m.tree file.place)) m.synced), (refl, (refl, refl, refl, λ k. refl))))
-calls_can_go_well most m (asks.SetOwner path owner group) room spelt = can_own m (standing m.tree path) (standing_say m.tree path)
+calls_can_go_well most m (asks.SetOwner number owner group) room spelt =
+    of_open (m.files number) (m.folders number) (λ file said after. (said ≡ says.Done) × (after ≡ m)) m (λ file. (says.Done, m, (refl, refl)))
 calls_can_go_well most m (asks.SetMode number mode) room spelt =
     of_open (m.files number) (m.folders number) (λ file said after. (said ≡ says.Done) × (after ≡ m)) m (λ file. (says.Done, m, (refl, refl)))
 calls_can_go_well most m (asks.StatFile number) room spelt =

@@ -39,7 +39,7 @@ writes_file _ = false
 abbrev pub prepares : SystemCall → Bool
 prepares (asks.Stat path) = true
 prepares (asks.StatLink path) = true
-prepares (asks.SetOwner path owner group) = true
+prepares (asks.SetOwner number owner group) = true
 prepares (asks.SetMode number mode) = true
 prepares (asks.Sync number) = true
 prepares _ = false
@@ -61,7 +61,7 @@ has_kind (asks.StatFile number) (says.Info info) = true
 has_kind (asks.Stat path) (says.Info info) = true
 has_kind (asks.StatLink path) (says.Info info) = true
 has_kind (asks.Sync number) says.Done = true
-has_kind (asks.SetOwner path owner group) says.Done = true
+has_kind (asks.SetOwner number owner group) says.Done = true
 has_kind (asks.SetMode number mode) says.Done = true
 has_kind (asks.Rename from to) says.Done = true
 has_kind (asks.MakeFolder path) says.Done = true

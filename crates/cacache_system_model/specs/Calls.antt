@@ -6,7 +6,7 @@ use Rattle.cacache_disk.specs.{declared.{luck.Luck.{Luck, TheVariants.{Plain, Fa
 use Rattle.cacache_system.specs.{declared.call.{SystemCall.{SystemCall}, CallItem.{CallItem}, CallResult.{CallResult}}, CallsOf.{already_exists, interrupts}, AnswersOf.{misses, refuses_memory}}
 use Rattle.cacache_system.specs.declared.call.SystemCall.TheVariants as asks
 use Rattle.cacache_system.specs.declared.call.CallResult.TheVariants as says
-use Rattle.cacache_system_model.specs.{Folders.{OpensFolder, ReadsFolder}, Machine.{OpenFile, SyncedNode, Machine, Became, HasTree, IsRefused, ChangesTree, RemovesNode, OpensIf, with_empty, ShowsEnd, ShowsOpen, ReadsOpen, Grows, WritesOpen, with_sync, SyncsOpen, GivesOwner, GivesMode, LinksNode, found_bytes, CopiesBytes, MovesNode, SpellsEnd}}
+use Rattle.cacache_system_model.specs.{Folders.{OpensFolder, ReadsFolder}, Machine.{OpenFile, SyncedNode, Machine, Became, HasTree, IsRefused, ChangesTree, RemovesNode, OpensIf, with_empty, ShowsEnd, ShowsOpen, ReadsOpen, Grows, WritesOpen, with_sync, SyncsOpen, GivesRights, LinksNode, found_bytes, CopiesBytes, MovesNode, SpellsEnd}}
 
 -- the bytes that a copy brings, or why it brings none
 abbrev pub brought : Tree → List ℕ → List ℕ → Result (List ℕ) Fault
@@ -26,9 +26,8 @@ GoesWell most m (asks.Read number size) said after =
 GoesWell most m (asks.ReadRest number) said after = ReadsOpen (λ bytes. bytes) number m said after
 GoesWell most m (asks.Write number bytes) said after = WritesOpen most bytes number m said after
 GoesWell most m (asks.Sync number) said after = SyncsOpen number m said after
-GoesWell most m (asks.SetOwner path owner group) said after =
-    GivesOwner (standing m.tree path) m said after
-GoesWell most m (asks.SetMode number mode) said after = GivesMode number m said after
+GoesWell most m (asks.SetOwner number owner group) said after = GivesRights number m said after
+GoesWell most m (asks.SetMode number mode) said after = GivesRights number m said after
 GoesWell most m (asks.StatFile number) said after = ShowsOpen number m said after
 GoesWell most m (asks.Stat path) said after = ShowsEnd (found m.tree path) m said after
 GoesWell most m (asks.StatLink path) said after = ShowsEnd (standing m.tree path) m said after

@@ -271,15 +271,9 @@ SyncsOpen number m said after =
 
 -- ---- owners and modes
 
--- what stands at a path, be it a link, gets an owner, or it is refused: nothing changes that a machine has
-abbrev pub GivesOwner : Result Names Fault → Machine → CallResult → Machine → Type 0
-GivesOwner ends m said after =
-    MatchResult ends (λ names. (said ≡ says.Done) × (after ≡ m))
-    (λ fault. IsRefused fault m said after)
-
--- an open file gets a mode
-abbrev pub GivesMode : ℕ → Machine → CallResult → Machine → Type 0
-GivesMode number m said after =
+-- an open file gets an owner or a mode: nothing changes that a machine has
+abbrev pub GivesRights : ℕ → Machine → CallResult → Machine → Type 0
+GivesRights number m said after =
     OnOpen number (λ file said after. (said ≡ says.Done) × (after ≡ m)) m said after
 
 -- ---- two paths

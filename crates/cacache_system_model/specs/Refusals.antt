@@ -62,7 +62,7 @@ NoMoveWithoutMode =
     (said end : CallResult) (rest : List CallItem)
     → Runs (first (rewrites synced) (steps.Persist temp path))
     (item (asks.Stat path) (Info info)
-    ∷ item (asks.SetOwner temp.path info.owner info.group) Done
+    ∷ item (asks.SetOwner temp.number info.owner info.group) Done
     ∷ item (asks.Rename temp.path path) said ∷ rest) end
     → ⊥
 
@@ -73,5 +73,5 @@ NoCallWithoutOwner =
     (why : ErrorKind) (call : SystemCall) (said end : CallResult) (rest : List CallItem)
     → Runs (first (rewrites synced) (steps.Persist temp path))
     (item (asks.Stat path) (Info info)
-    ∷ item (asks.SetOwner temp.path info.owner info.group) (Failed why) ∷ item call said ∷ rest) end
+    ∷ item (asks.SetOwner temp.number info.owner info.group) (Failed why) ∷ item call said ∷ rest) end
     → ⊥

@@ -169,10 +169,10 @@ impl Files for Watched {
         self.host.rename(from, to)
     }
 
-    fn lchown(&self, path: &str, owner: Option<u32>, group: Option<u32>) -> io::Result<()> {
-        self.asked("lchown", &[path])?;
+    fn chown(&self, path: &str, owner: Option<u32>, group: Option<u32>) -> io::Result<()> {
+        self.asked("chown", &[path])?;
         failing(self.ways.owner)?;
-        self.host.lchown(path, owner, group)
+        self.host.chown(path, owner, group)
     }
 
     fn remove_file(&self, path: &str) -> io::Result<()> {

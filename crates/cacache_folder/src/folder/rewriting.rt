@@ -67,18 +67,18 @@ fn give_mode<Y: System + Drop>(system: &mut Y, temp: &SystemTemp<Y>, mode: u32) 
 /// Gives the temporary file this owner, this group and this mode. The mode comes last: a new owner takes bits of it
 /// away.
 fn give<Y: System + Drop>(system: &mut Y, temp: &SystemTemp<Y>, info: &FileInfo) -> io::Result<()>
-    ensures { GoesBefore (calls.give (Y.number temp.now.file) temp.now.path temp.now.is_synced
-        info.now) result (Y.calls system.old) (Y.calls system.new) }
+    ensures { GoesBefore (calls.give (Y.number temp.now.file) temp.now.is_synced info.now) result
+        (Y.calls system.old) (Y.calls system.new) }
 {
-    system.set_owner(temp.path.as_str(), info.owner, info.group)?;
+    system.set_owner(&temp.file, info.owner, info.group)?;
     give_mode(system, temp, info.mode)
 }
 
 /// Gives the temporary file the owner, the group and the mode of the file at the path, if there is one. A link is
 /// followed.
 fn keep<Y: System + Drop>(system: &mut Y, temp: &SystemTemp<Y>, path: &str) -> io::Result<()>
-    ensures { GoesBefore (calls.keeping (Y.number temp.now.file) temp.now.path temp.now.is_synced
-        path.now) result (Y.calls system.old) (Y.calls system.new) }
+    ensures { GoesBefore (calls.keeping (Y.number temp.now.file) temp.now.is_synced path.now) result
+        (Y.calls system.old) (Y.calls system.new) }
 {
     match system.stat(path) {
         Ok(info) => give(system, temp, &info),

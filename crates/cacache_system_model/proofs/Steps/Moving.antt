@@ -9,7 +9,7 @@ use Rattle.cacache_disk.specs.{declared.{luck.Luck.TheVariants.{Plain}, node.Nod
 use Rattle.cacache_system.specs.{declared.call.{FileInfo.{FileInfo}, SystemCall.{SystemCall}, CallResult.{CallResult}}, CallsOf.{Stage, over, only, preparing, keeping, give, give_mode, sync_again, after}, Seen.{NumberedTemp}, AnswersOf.{Hint, rewrites, persist, misses}}
 use Rattle.cacache_system.specs.declared.call.SystemCall.TheVariants as asks
 use Rattle.cacache_system.specs.declared.call.CallResult.TheVariants as says
-use Rattle.cacache_system_model.specs.{Machine.{under, OpenFile, node_of, Machine, with_sync, fixes, Became, ShowsEnd, GivesOwner}, Calls.{GoesWell, LeavesPart}, Laws.{Leads, IsDone}, StepLaws.{StillStands, LeadsOrMisses, MayReplace, PersistAgrees}}
+use Rattle.cacache_system_model.specs.{Machine.{under, OpenFile, node_of, Machine, with_sync, fixes, Became, ShowsEnd, GivesRights}, Calls.{GoesWell, LeavesPart}, Laws.{Leads, IsDone}, StepLaws.{StillStands, LeadsOrMisses, MayReplace, PersistAgrees}}
 use Rattle.cacache_system_model.proofs.{Leading.{Claim, over_leads, call_leads, only_leads}, Claims.{way_of, claim_of, cases_of, agrees_of, claim_plain, claim_broken}, Steps.{Opening.{said_leads, open_of}, CopyFacts.{not_absent, fault_absent}, Changing.{put_away}}, memory.Places.{place_led}}
 
 -- the same stands, and the same files are open
@@ -85,15 +85,9 @@ module _ (b : Bool) (m : Machine) (temp : NumberedTemp) (path : List ℕ) (names
       (over_leads (way_of b) (says.Failed why) l put_claim (claim_broken b m (steps.Persist temp path) done why l broke refl fine (whole why part l left ∙ same.tree))))
       (cases_of b n call said l happens))
 
-  owned : (owner group : ℕ) (n : Machine) → Same m n → (most : Option ℕ) (said : CallResult) (l : Machine) → GoesWell most n (asks.SetOwner temp.path owner group) said l → (said ≡ says.Done) × Same m l
-  owned owner group n same most said l well =
-      let now = ready_on n same in
-      let at : standing n.tree temp.path ≡ Ok names = stands_at n.tree temp.path names (File bytes) (place_led n.tree temp.path names now.named now.way) now.stands in
-      let given : (said ≡ says.Done) × (l ≡ n) = subst (λ (r : Result Names Fault). GivesOwner r n said l) at well in
-      (given.0, still_same m n l same given.1)
-
-  moded : (mode : ℕ) (n : Machine) → Same m n → (most : Option ℕ) (said : CallResult) (l : Machine) → GoesWell most n (asks.SetMode temp.number mode) said l → (said ≡ says.Done) × Same m l
-  moded mode n same most said l well =
+  -- it gets an owner, or a mode
+  given : (n : Machine) → Same m n → (said : CallResult) (l : Machine) → GivesRights temp.number n said l → (said ≡ says.Done) × Same m l
+  given n same said l well =
       let given = open_of n l temp.number (under names) said (λ file said l. (said ≡ says.Done) × (l ≡ n)) (ready_on n same).opened well in
       (given.3.0, still_same m n l same given.3.1)
 
@@ -109,30 +103,30 @@ module _ (b : Bool) (m : Machine) (temp : NumberedTemp) (path : List ℕ) (names
 
   -- it gets the owner, the group and the mode
   gives : (c : Bool) (info : FileInfo) (s : Stage) (n : Machine) → Same m n → ((l : Machine) → Same m l → Leads (way_of b) s l put_claim)
-      → Leads (way_of b) (give temp.number temp.path c info s) n put_claim
+      → Leads (way_of b) (give temp.number c info s) n put_claim
   gives c info s n same next =
-      prepares (asks.SetOwner temp.path info.owner info.group) (give_mode temp.number c info.mode s) n same (owned info.owner info.group n same) (λ why part l left. ap (λ (x : Machine). x.tree) left) (λ l is.
-      prepares (asks.SetMode temp.number info.mode) (sync_again c temp.number s) l is (moded info.mode l is) (λ why part k left. ap (λ (x : Machine). x.tree) left) (λ k so. syncs c s k so next))
+      prepares (asks.SetOwner temp.number info.owner info.group) (give_mode temp.number c info.mode s) n same (λ most. given n same) (λ why part l left. ap (λ (x : Machine). x.tree) left) (λ l is.
+      prepares (asks.SetMode temp.number info.mode) (sync_again c temp.number s) l is (λ most. given l is) (λ why part k left. ap (λ (x : Machine). x.tree) left) (λ k so. syncs c s k so next))
 
   -- the file that it replaces is looked at
   keeps_at : (c : Bool) (s : Stage) (ends : Result Names Fault) (said : CallResult) (n : Machine) → MatchResult ends (λ names. Unit {0}) (λ fault. fault ≡ NotFound) → ((l : Machine) → Same m l → Leads (way_of b) s l put_claim)
-      → ShowsEnd ends m said n → Leads (way_of b) (after (keeping temp.number temp.path c path s) said) n put_claim
+      → ShowsEnd ends m said n → Leads (way_of b) (after (keeping temp.number c path s) said) n put_claim
   keeps_at c s (Ok there) said n may next (info, is, fits, stays) =
-      said_leads b (keeping temp.number temp.path c path s) said (says.Info info) n put_claim is
+      said_leads b (keeping temp.number c path s) said (says.Info info) n put_claim is
       (gives c info s n (still_same m m n (record { tree = refl; files = refl }) stays) next)
   keeps_at c s (Err fault) said n may next (why, is, of, memory, stays) =
-      said_leads b (keeping temp.number temp.path c path s) said (says.Failed why) n put_claim is
+      said_leads b (keeping temp.number c path s) said (says.Failed why) n put_claim is
       (subst (λ (x : Bool). Leads (way_of b) (if x then s else over (says.Failed why)) n put_claim) (sym (fault_absent why (of ∙ may)))
       (next n (still_same m m n (record { tree = refl; files = refl }) stays)))
 
   keeps : (c : Bool) (s : Stage) → LeadsOrMisses m.tree path → ((l : Machine) → Same m l → Leads (way_of b) s l put_claim)
-      → Leads (way_of b) (keeping temp.number temp.path c path s) m put_claim
+      → Leads (way_of b) (keeping temp.number c path s) m put_claim
   keeps c s may next =
-      call_leads (way_of b) (keeping temp.number temp.path c path s) (asks.Stat path) m put_claim refl (λ end never. absurd never) (λ said n happens.
+      call_leads (way_of b) (keeping temp.number c path s) (asks.Stat path) m put_claim refl (λ end never. absurd never) (λ said n happens.
       ⊎_elim
       (λ (most, all, well). keeps_at c s (found m.tree path) said n may next well)
       (λ (broke, why, is, fine, part, left).
-      said_leads b (keeping temp.number temp.path c path s) said (says.Failed why) n put_claim is
+      said_leads b (keeping temp.number c path s) said (says.Failed why) n put_claim is
       (subst (λ (x : Bool). Leads (way_of b) (if x then s else over (says.Failed why)) n put_claim) (sym (not_absent why fine))
       (over_leads (way_of b) (says.Failed why) n put_claim (breaks why m n (record { tree = refl; files = refl }) broke fine left))))
       (cases_of b m (asks.Stat path) said n happens))

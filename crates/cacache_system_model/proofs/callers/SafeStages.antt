@@ -37,7 +37,7 @@ module _ (q : Names) where
   IsSafe (asking_folder path) m = Unit {0}
   IsSafe (making again path todo) m = Unit {0}
   IsSafe (confirming why path todo) m = Unit {0}
-  IsSafe (keeping number temp synced path s) m = IsOpenNumber m number × ((n : Machine) → Unchanged m n → IsSafe s n)
+  IsSafe (keeping number synced path s) m = IsOpenNumber m number × ((n : Machine) → Unchanged m n → IsSafe s n)
   IsSafe (preparing call s) m = Readies m call × ((n : Machine) → Unchanged m n → IsSafe s n)
   IsSafe (sizing path) m = Unit {0}
   IsSafe (asking_source number from to) m = IsApart q m.tree to
@@ -135,9 +135,9 @@ module _ (q : Names) where
   again_safe true number s m open_file later = (open_file, later)
   again_safe false number s m open_file later = later m (refl, refl)
 
-  pub give_safe : (number : ℕ) (temp : List ℕ) (synced : Bool) (info : FileInfo) (s : Stage) (m : Machine) → IsOpenNumber m number → SafeLater s m → IsSafe (give number temp synced info s) m
-  give_safe number temp synced info s m open_file later = (
-    tt,
+  pub give_safe : (number : ℕ) (synced : Bool) (info : FileInfo) (s : Stage) (m : Machine) → IsOpenNumber m number → SafeLater s m → IsSafe (give number synced info s) m
+  give_safe number synced info s m open_file later = (
+    open_file,
     λ n same. (
       open_later m n number same open_file,
       λ k next.
@@ -146,11 +146,11 @@ module _ (q : Names) where
     ),
   )
 
-  pub kept_safe : (number : ℕ) (temp : List ℕ) (synced : Bool) (path : List ℕ) (s : Stage) (said : CallResult) (m : Machine) → IsOpenNumber m number → SafeLater s m
-      → IsSafe (after (keeping number temp synced path s) said) m
-  kept_safe number temp synced path s (says.Info info) m open_file later = give_safe number temp synced info s m open_file later
-  kept_safe number temp synced path s (says.Failed why) m open_file later = cond_safe (is_absent why) s (over (says.Failed why)) m (later m (refl, refl)) tt
-  kept_safe number temp synced path s said m open_file later = tt
+  pub kept_safe : (number : ℕ) (synced : Bool) (path : List ℕ) (s : Stage) (said : CallResult) (m : Machine) → IsOpenNumber m number → SafeLater s m
+      → IsSafe (after (keeping number synced path s) said) m
+  kept_safe number synced path s (says.Info info) m open_file later = give_safe number synced info s m open_file later
+  kept_safe number synced path s (says.Failed why) m open_file later = cond_safe (is_absent why) s (over (says.Failed why)) m (later m (refl, refl)) tt
+  kept_safe number synced path s said m open_file later = tt
 
   pub prepared_safe : (call : SystemCall) (s : Stage) (said : CallResult) (m : Machine) → IsSafe s m → IsSafe (after (preparing call s) said) m
   prepared_safe call s says.Done m h = h

@@ -72,9 +72,9 @@ module _ (q : Names) where
   goes_safe (asking_folder path) m n call said safe w h = (occurs_keep (asks.Stat path) q m n said tt (at_call (asks.Stat path) call m n said w h), folder_safe q path said n)
   goes_safe (making again path todo) m n call said safe w h = (occurs_keep (asks.MakeFolder path) q m n said tt (at_call (asks.MakeFolder path) call m n said w h), making_safe q again path todo said n)
   goes_safe (confirming why path todo) m n call said safe w h = (occurs_keep (asks.Stat path) q m n said tt (at_call (asks.Stat path) call m n said w h), confirming_safe q why path todo said n)
-  goes_safe (keeping number temp synced path s) m n call said (open_file, later) w h =
+  goes_safe (keeping number synced path s) m n call said (open_file, later) w h =
       let same = look_left path m n said (at_call (asks.Stat path) call m n said w h) in
-      (keeps_self (under q) m n same, subst (λ (x : Machine). IsSafe q (after (keeping number temp synced path s) said) x) (sym same) (kept_safe q number temp synced path s said m open_file later))
+      (keeps_self (under q) m n same, subst (λ (x : Machine). IsSafe q (after (keeping number synced path s) said) x) (sym same) (kept_safe q number synced path s said m open_file later))
   goes_safe (preparing c s) m n call said (ready, later) w h =
       let left = readied c m n said ready (at_call c call m n said w h) in (keeps_same (under q) m n left.1, prepared_safe q c s said n (later n left))
   goes_safe (opening_folder path) m n call said safe w h =

@@ -6,7 +6,7 @@ use Rattle.cacache_disk.specs.{Tree.{Tree, look}, LedTo.{standing, leads, found,
 use Rattle.cacache_system.specs.declared.call.{SystemCall.{SystemCall}, CallResult.{CallResult}}
 use Rattle.cacache_system.specs.declared.call.SystemCall.TheVariants as asks
 use Rattle.cacache_system.specs.declared.call.CallResult.TheVariants as says
-use Rattle.cacache_system_model.specs.{Machine.{under, OpenFile, Machine, OpensIf, with_file, unread, ShowsEnd, GivesOwner}, Calls.{GoesWell, LeavesPart, OccursSomehow}, StepLaws.{IsOpenAt}}
+use Rattle.cacache_system_model.specs.{Machine.{under, OpenFile, Machine, OpensIf, with_file, unread, ShowsEnd}, Calls.{GoesWell, LeavesPart, OccursSomehow}, StepLaws.{IsOpenAt}}
 use Rattle.cacache_system_model.proofs.{Steps.Opening.{open_of}, Views.{View, nowhere, a_folder, a_file, view}, callers.OpenCalls.{place_at, node_keeps, CanRead, IsOpenNumber, IsNamed, Readable, Synced}}
 
 -- ---- calls that change neither the tree nor the open files
@@ -28,13 +28,10 @@ link_look_left path m n said holds = grind (arith, shown_left)
 
 -- a call that readies a temporary file to replace another
 abbrev pub Readies : Machine → SystemCall → Type 0
-Readies m (asks.SetOwner path owner group) = Unit {0}
+Readies m (asks.SetOwner number owner group) = IsOpenNumber m number
 Readies m (asks.SetMode number mode) = IsOpenNumber m number
 Readies m (asks.Sync number) = IsOpenNumber m number
 Readies m call = ⊥
-
-owner_left : (r : Result Names Fault) (m n : Machine) (said : CallResult) → GivesOwner r m said n → Unchanged m n
-owner_left r m n said holds = grind (arith, unchanged_self)
 
 abbrev Moded : Machine → Machine → CallResult → OpenFile → Type 0
 Moded m n said file = (said ≡ says.Done) × (n ≡ m)
@@ -46,7 +43,8 @@ sync_left : (m n : Machine) (said : CallResult) (file : OpenFile) → Synced m n
 sync_left m n said file (is_said, (tree, files, synced, folders)) = (tree, files)
 
 ready_left : (most : Option ℕ) (call : SystemCall) (m n : Machine) (said : CallResult) → Readies m call → GoesWell most m call said n → Unchanged m n
-ready_left most (asks.SetOwner path owner group) m n said ready h = owner_left (standing m.tree path) m n said h
+ready_left most (asks.SetOwner number owner group) m n said (place, is) h =
+    let g = open_of m n number place said (λ file said n. Moded m n said file) is h in mode_left m n said g.0 g.3
 ready_left most (asks.SetMode number mode) m n said (place, is) h =
     let g = open_of m n number place said (λ file said n. Moded m n said file) is h in mode_left m n said g.0 g.3
 ready_left most (asks.Sync number) m n said (place, is) h =

@@ -7,7 +7,7 @@ use Rattle.cacache_disk.specs.{declared.{node.Node.{Node, TheVariants.{Folder, F
 use Rattle.cacache_disk.specs.declared.stop.Stop.TheVariants as stop
 use Rattle.cacache_system.specs.declared.call.{FileInfo.{FileInfo}, CallResult.{CallResult}}
 use Rattle.cacache_system.specs.declared.call.CallResult.TheVariants as says
-use Rattle.cacache_system_model.specs.{Machine.{Place, under, nameless, Machine, OnOpen, CopiesTo, Describes, grown, node_of, unread, with_file, Grows, IsRefused, IsUnused, OpensIf, ReadsFile, ReadsOpen, WritesOpen, ShowsPlace, ShowsOpen, GivesOwner, GivesMode, CopiesBytes}, declared.memory.{files.OpenFile.{OpenFile}, state.Memory.{Memory}}, memory.{Stopping.{kind_of, kind_for, outcome}, Changes.{Changed}, Files.{place_of, open_of, IsSame, Opens, IsNoFile, IsRest, IsBad, Fails, Gives, Reads, read_more, Lengthens, Writes, IsOpen, open_info, ShownOpen, Copied}, Machines.{machine, GivesUp}}}
+use Rattle.cacache_system_model.specs.{Machine.{Place, under, nameless, Machine, OnOpen, CopiesTo, Describes, grown, node_of, unread, with_file, Grows, IsRefused, IsUnused, OpensIf, ReadsFile, ReadsOpen, WritesOpen, ShowsPlace, ShowsOpen, GivesRights, CopiesBytes}, declared.memory.{files.OpenFile.{OpenFile}, state.Memory.{Memory}}, memory.{Stopping.{kind_of, kind_for, outcome}, Changes.{Changed}, Files.{place_of, open_of, IsSame, Opens, IsNoFile, IsRest, IsBad, Fails, Gives, Reads, read_more, Lengthens, Writes, IsOpen, open_info, ShownOpen, Copied}, Machines.{machine, GivesUp}}}
 use Rattle.cacache_system_model.proofs.{Saying.{Sayable}, memory.{Goings.{refused, refused_so, kept_so, same_machine, same_fault, placed_anew, described, apart}, Places.{at_put, at_end}}}
 use Rattle.cacache_system_model.specs.Machine as model
 
@@ -168,21 +168,12 @@ module _ (number : ℕ) (m : Memory) (out : CallResult) where
   some_open None is = absurd cc
   some_open (Some file) is = tt
 
-  pub goes_mode : (given : Result ⊤ Stop) → out ≡ outcome (λ _. says.Done) given → IsOpen number m given
-      → GivesMode number (machine m.disk m.files.items) out (machine m.disk m.files.items)
-  goes_mode (Ok given) is there =
+  pub goes_rights : (given : Result ⊤ Stop) → out ≡ outcome (λ _. says.Done) given → IsOpen number m given
+      → GivesRights number (machine m.disk m.files.items) out (machine m.disk m.files.items)
+  goes_rights (Ok given) is there =
       done number m m out (λ file said after. (said ≡ says.Done) × (after ≡ machine m.disk m.files.items)) (λ file. ⊤) (some_open (slice_get m.files.items number) there) (λ file found some. (is, refl))
-  goes_mode (Err why) is (none, bad) =
+  goes_rights (Err why) is (none, bad) =
       none_open number m m out (λ file said after. (said ≡ says.Done) × (after ≡ machine m.disk m.files.items)) none (is ∙ ap (λ why. says.Failed (kind_of why)) bad) (refl, refl)
-
-pub goes_owned : (t : Tree) (files : List OpenFile) (ends : Result Names Fault) (done : Result ⊤ Stop) (out : CallResult) → Sayable ends → out ≡ outcome (λ _. says.Done) done
-    → Changed ends (λ names. t) done t t
-    → GivesOwner ends (machine t files) out (machine t files) ⊎ GivesUp kind.OutOfMemory (machine t files) out (machine t files)
-goes_owned t files ends (Err stop.OutOfMemory) out can is same = inr (is, refl)
-goes_owned t files (Ok names) (Ok done) out can is change = inl (is, refl)
-goes_owned t files (Ok names) (Err (stop.Fault fault)) out can is change = absurd (apart (Ok names) names fault refl change.0)
-goes_owned t files (Err own) (Ok done) out can is change = absurd change
-goes_owned t files (Err own) (Err (stop.Fault fault)) out can is change = inl (refused t t files own out can (is ∙ ap (λ fault. says.Failed (kind_for fault)) (same_fault {A = Names} (Err own) own fault refl change.0)) refl)
 
 -- ---- copies
 

@@ -7,7 +7,7 @@ ghost use Rattle.cacache_system.specs.Seen.{said, said_bytes, said_rest};
 use crate::memory::log::{Asked, Said};
 use crate::memory::state::MemoryFile;
 use crate::memory::system::MemorySystem;
-use crate::memory::tree::{hard_link, make_folder, own, shown, shown_link, symlink};
+use crate::memory::tree::{hard_link, make_folder, shown, shown_link, symlink};
 use cacache_core::errors::Fault;
 use cacache_core::text::Text;
 use cacache_disk::Stop;
@@ -143,14 +143,15 @@ impl System for MemorySystem {
         Err(self.log.fail(Asked::Sync(file.number), UNSUPPORTED))
     }
 
-    fn set_owner(&mut self, path: &str, owner: u32, group: u32) -> io::Result<()>
-        ensures logged { Notes self.old (asks.SetOwner path.now owner group)
+    fn set_owner(&mut self, file: &MemoryFile, owner: u32, group: u32) -> io::Result<()>
+        ensures logged { Notes self.old (asks.SetOwner file.now.number owner group)
             (said (λ _. says.Done) result) self.new }
-        ensures goes { Goes self.old (asks.SetOwner path.now owner group)
+        ensures goes { Goes self.old (asks.SetOwner file.now.number owner group)
             (said (λ _. says.Done) result) self.new }
     {
-        let done = own(&self.memory.disk, path);
-        self.log.end(Asked::SetOwner(path, owner, group), done)
+        let done = self.memory.give_rights(file.number);
+        self.log
+            .end(Asked::SetOwner(file.number, owner, group), done)
     }
 
     fn set_mode(&mut self, file: &MemoryFile, mode: u32) -> io::Result<()>
@@ -159,7 +160,7 @@ impl System for MemorySystem {
         ensures goes { Goes self.old (asks.SetMode file.now.number mode)
             (said (λ _. says.Done) result) self.new }
     {
-        let done = self.memory.give_mode(file.number);
+        let done = self.memory.give_rights(file.number);
         self.log.end(Asked::SetMode(file.number, mode), done)
     }
 

@@ -108,8 +108,8 @@ impl Memory {
         Ok(more.len())
     }
 
-    /// Gives an open file a mode, of which nothing is kept.
-    pub(crate) fn give_mode(&self, number: u64) -> Result<(), Stop>
+    /// Gives an open file an owner or a mode, of which nothing is kept.
+    pub(crate) fn give_rights(&self, number: u64) -> Result<(), Stop>
         ensures { IsOpen number self.now result }
     {
         match self.files.get(number as usize) {

@@ -24,7 +24,7 @@ pub(crate) enum Asked<'a> {
     Write(u64, &'a [u8]),
     ReadNames(u64, usize),
     Sync(u64),
-    SetOwner(&'a str, u32, u32),
+    SetOwner(u64, u32, u32),
     SetMode(u64, u32),
     StatFile(u64),
     Stat(&'a str),

@@ -104,16 +104,6 @@ pub(crate) fn shown_link(disk: &Disk, path: &str) -> Result<FileInfo, Stop>
     }
 }
 
-/// Gives what stands at a path an owner, of which nothing is kept.
-pub(crate) fn own(disk: &Disk, path: &str) -> Result<(), Stop>
-    ensures { Changed (standing disk.now path.now) (λ names. disk.now) result disk.now disk.now }
-{
-    match shown_link(disk, path) {
-        Ok(_) => Ok(()),
-        Err(stop) => Err(stop),
-    }
-}
-
 /// Makes a folder.
 #[tactic(auto, using(crate::proofs::memory::Occurring::makes_folder, crate::proofs::memory::Occurring::makes_nothing, crate::proofs::memory::Occurring::makes_no_second))]
 pub(crate) fn make_folder(disk: &mut Disk, alloc: Global, path: &str) -> Result<(), Stop>
