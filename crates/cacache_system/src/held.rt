@@ -95,26 +95,6 @@ impl<F> Held<F> {
         let rest = rest_below(self.path.as_str(), path).unwrap_or("");
         joined(alloc, self.inside.as_str(), rest)
     }
-
-    /// What the system knows the folder by that is above this one.
-    fn above<R: Files>(&self, rt: &R, alloc: Global) -> io::Result<Node> {
-        let up = joined(alloc, self.inside.as_str(), "..")?;
-        Ok(Node::of(&rt.metadata(up.as_str())?))
-    }
-
-    /// Makes sure that this folder is in a known one.
-    pub(crate) fn must_be_in<R: Files>(
-        &self,
-        rt: &R,
-        alloc: Global,
-        known: Node,
-    ) -> io::Result<()> {
-        if self.above(rt, alloc)?.is_same(known) {
-            Ok(())
-        } else {
-            Err(no_folder())
-        }
-    }
 }
 
 /// A path that leads to what is open.

@@ -105,21 +105,6 @@ pub(crate) fn unless_other<F: OpenFile + Drop>(
     }
 }
 
-/// Opens the folder at the path by its name in one that is held above it. A link there is followed.
-fn open_in<R: Files>(
-    rt: &R,
-    alloc: Global,
-    above: &Held<R::File>,
-    path: &str,
-) -> io::Result<Held<R::File>>
-where
-    R::File: AsRawFd,
-{
-    let mut asked = above.beneath(alloc, path)?;
-    asked.push('/')?;
-    held_as(alloc, path, false, File::open(rt, asked.as_str()))
-}
-
 /// What comes before the name of the folder in its path, and the cache's other area, if a walk begins at one of the two.
 fn other_area(folder: &str) -> Option<(&str, &'static str)> {
     let area = match folder.rsplit_once('/') {
@@ -264,27 +249,15 @@ where
             .retain(|held| held.is_first || leads(held.path.as_str(), folder));
     }
 
-    /// Opens the folder at the path by its name in the innermost that is held above it. No link is followed: the folder
-    /// above the one that was opened has to be that.
+    /// Opens the folder at the path by its name in the innermost that is held above it. No link is followed: what was
+    /// opened has to be what is named there.
     fn enter(&mut self, rt: &R, path: &str) -> io::Result<()> {
-        let alloc = self.alloc;
-        let Some(at) = self.above(path) else {
+        let Some(there) = self.near(path)? else {
             return Err(no_folder());
         };
-        let Some(above) = self.held.as_mut_slice().get_mut(at) else {
-            return Err(no_folder());
-        };
-        let known = above.known(rt)?;
-        let held = open_in(rt, alloc, above, path)?;
-        self.hold_in(rt, held, known)
-    }
-
-    /// Holds a folder that was opened in a known one.
-    fn hold_in(&mut self, rt: &R, held: Held<R::File>, known: Node) -> io::Result<()> {
-        match held.must_be_in(rt, self.alloc, known) {
-            Ok(()) => self.push(held),
-            Err(error) => Err(error),
-        }
+        let named = folder_at(rt, there.as_str())?;
+        let opened = open_named(rt, self.alloc, there.as_str(), Some(named));
+        self.push(held_as(self.alloc, path, false, opened)?)
     }
 
     /// Holds one folder more.
