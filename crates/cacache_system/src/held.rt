@@ -5,7 +5,6 @@ use std::io;
 use std::io::ErrorKind;
 use std::os::fd::AsRawFd;
 use std::os::unix::fs::MetadataExt;
-use std::rt::Files;
 
 /// What the system knows a folder by.
 #[derive(Clone, Copy)]
@@ -37,8 +36,8 @@ pub(crate) struct Held<F> {
     pub(crate) inside: String,
     /// Whether a walk began here.
     pub(crate) is_first: bool,
-    /// What the system knows it by, once that was asked.
-    node: Option<Node>,
+    /// What the system knows it by.
+    pub(crate) node: Node,
     /// Keeps it open.
     _file: F,
 }
@@ -62,6 +61,7 @@ impl<F: AsRawFd> Held<F> {
         alloc: Global,
         path: &str,
         is_first: bool,
+        node: Node,
         file: F,
     ) -> Result<Held<F>, AllocError>
     where
@@ -73,23 +73,13 @@ impl<F: AsRawFd> Held<F> {
             path: String::from_str(alloc, path)?,
             inside,
             is_first,
-            node: None,
+            node,
             _file: file,
         })
     }
 }
 
 impl<F> Held<F> {
-    /// What the system knows the folder by. It is asked once.
-    pub(crate) fn known<R: Files>(&mut self, rt: &R) -> io::Result<Node> {
-        if let Some(node) = self.node {
-            return Ok(node);
-        }
-        let node = Node::of(&rt.metadata(self.inside.as_str())?);
-        self.node = Some(node);
-        Ok(node)
-    }
-
     /// Where to ask, inside the folder, for what is at a path below it.
     pub(crate) fn beneath(&self, alloc: Global, path: &str) -> Result<String, AllocError> {
         let rest = rest_below(self.path.as_str(), path).unwrap_or("");
@@ -108,10 +98,10 @@ pub(crate) fn held_as<F: AsRawFd + Drop>(
     alloc: Global,
     path: &str,
     is_first: bool,
-    opened: io::Result<F>,
+    opened: io::Result<(F, Node)>,
 ) -> io::Result<Held<F>> {
     match opened {
-        Ok(file) => Ok(Held::new(alloc, path, is_first, file)?),
+        Ok((file, node)) => Ok(Held::new(alloc, path, is_first, node, file)?),
         Err(error) => Err(error),
     }
 }

@@ -133,10 +133,11 @@ fn open_plain<R: Files>(rt: &R, path: &str) -> io::Result<R::File> {
     if !named.is_file() {
         return Err(io::Error::from(ErrorKind::Unsupported));
     }
-    unless_other(
-        File::options().append(true).open(rt, path),
-        Some(Node::of(&named)),
-    )
+    let opened = File::options().append(true).open(rt, path);
+    match unless_other(opened, Some(Node::of(&named))) {
+        Ok((file, _)) => Ok(file),
+        Err(error) => Err(error),
+    }
 }
 
 /// Whether the path leads to what is neither file nor folder.

@@ -86,20 +86,20 @@ fn open_named<R: Files>(
     alloc: Global,
     folder: &str,
     named: Option<Node>,
-) -> io::Result<R::File> {
+) -> io::Result<(R::File, Node)> {
     let asked = joined(alloc, folder, "/")?;
     unless_other(File::open(rt, asked.as_str()), named)
 }
 
-/// What was opened, if it is what was named.
+/// What was opened, if it is what was named, and what the system knows it by.
 pub(crate) fn unless_other<F: OpenFile + Drop>(
     opened: io::Result<F>,
     named: Option<Node>,
-) -> io::Result<F> {
+) -> io::Result<(F, Node)> {
     let file = opened?;
     match (file.metadata(), named) {
-        (Ok(_), None) => Ok(file),
-        (Ok(found), Some(named)) if Node::of(&found).is_same(named) => Ok(file),
+        (Ok(found), None) => Ok((file, Node::of(&found))),
+        (Ok(found), Some(named)) if Node::of(&found).is_same(named) => Ok((file, named)),
         (Ok(_), Some(_)) => Err(no_folder()),
         (Err(error), _) => Err(error),
     }
@@ -333,17 +333,16 @@ where
     }
 
     /// Whether a folder at which a walk began is still at its path. If not, its listing might lack what is there now.
-    fn stays(&mut self, rt: &R, folder: &str) -> io::Result<bool> {
-        for held in self.held.as_mut_slice() {
+    fn stays(&self, rt: &R, folder: &str) -> bool {
+        for held in self.held.as_slice() {
             if held.is_first && held.path.as_str() == folder {
-                let known = held.known(rt)?;
                 return match rt.metadata(folder) {
-                    Ok(found) => Ok(Node::of(&found).is_same(known)),
-                    Err(_) => Ok(false),
+                    Ok(found) => Node::of(&found).is_same(held.node),
+                    Err(_) => false,
                 };
             }
         }
-        Ok(true)
+        true
     }
 
     /// Lists a folder at which a walk began. Without `/proc` it isn't held any more.
@@ -377,14 +376,9 @@ where
     fn list_held(&mut self, rt: &R, path: &str) -> io::Result<R::Dir> {
         let folder = path.trim_end_matches('/');
         if self.is_first(folder) {
-            match self.stays(rt, folder) {
-                Ok(true) => {}
-                // It stays open, so that no link that took its place is followed.
-                Ok(false) => return Err(no_folder()),
-                Err(error) => {
-                    self.leave(folder);
-                    return Err(unless_missing(error));
-                }
+            // It stays open, so that no link that took its place is followed.
+            if !self.stays(rt, folder) {
+                return Err(no_folder());
             }
         } else {
             if let Some(there) = self.within(rt, folder)? {
