@@ -60,12 +60,12 @@ pub(crate) type AnswerOf<Y> = Answer<SystemFile<Y>, SystemTemp<Y>>;
 /// mode. If they can't be kept, the step fails, and the file stays as it was. Any other `Persist` leaves the temporary
 /// file's own, so that its owner alone reads it.
 ///
-/// A walk lists a folder and those below it. Between `begin_walks` and `end_walks` the real system holds the folders
-/// that lead to where the walk is, eight at most. Steps on what is below the first go to the folders that are held, and not
-/// by path. If a link takes the place of one, a step that changes something there fails with `NotADirectory`, or changes
-/// the folder that the walk had opened. The first folder is opened by its path, and a link to it is followed. Without
-/// `/proc` its listing fails with `Unsupported`. So does a step that would open what a walk found to be neither file,
-/// folder nor link.
+/// A walk lists a folder and those below it, by their paths. Between `begin_walks` and `end_walks` the real system holds
+/// the folders that lead to where the walk is, eight at most. Steps on what is below the first go to the folders that are
+/// held, and not by path. If a link takes the place of one, a step that changes something there fails with
+/// `NotADirectory`, or changes the folder that the walk had opened. The first folder is opened by its path, and a link to it
+/// is followed. Without `/proc` its listing fails with `Unsupported`, and so does a `Persist` that keeps an owner. In any
+/// walk a step fails so that would open what a listing found to be neither file, folder nor link, or a link to such.
 #[derive(Drop)]
 pub struct SystemStore<Y: System + Drop> {
     runner: Runner<Y>,

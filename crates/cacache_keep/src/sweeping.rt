@@ -111,8 +111,8 @@ fn area_in(around: &[Name]) -> Option<Kind>
     None
 }
 
-/// What lies in the folder of temporary files, or what else is in its place. A store follows no link to a folder that
-/// a listing named, so the cache folder is listed first.
+/// What lies in the folder of temporary files, or what else is in its place. In walks that were begun a store follows no
+/// link to a folder that a listing named, so the cache folder is listed first.
 fn find_files<S: Store>(alloc: Global, store: &mut S, cache: &str, folder: &str) -> Result<Parts>
     requires { folder.now ≡ swept_folder cache.now }
     ensures finds { IfOk result (λ p. FindsFiles cache.now p.files.items

@@ -1,10 +1,10 @@
 //! The real system. All that stays trusted here is that each method asks what it is named for, and that it asks in the
-//! folders that walks hold open, and not by a path that somebody may have led elsewhere since.
+//! folders that walks hold open if they were begun, and not by a path that somebody may have led elsewhere since.
 ghost use Rattle.std.specs.{Prelude.{◌≡◌, ◌++◌, None, OnOk, IfSome}, Io.{StartsWith}};
 
 use crate::call::FileInfo;
 use crate::held::Node;
-use crate::open_folders::{OpenFolders, unless_other};
+use crate::open_folders::{OpenFolders, unless_missing, unless_other};
 use crate::system::System;
 use cacache_core::text::Text;
 use cacache_store::store::Kind;
@@ -231,7 +231,10 @@ where
     // The kit's call takes a path. That of the open file leads to it, whatever stands at its name by now.
     fn set_owner(&mut self, file: &R::File, owner: u32, group: u32) -> io::Result<()> {
         let path = self.walks.path_of(file)?;
-        self.rt.chown(path.as_str(), Some(owner), Some(group))
+        match self.rt.chown(path.as_str(), Some(owner), Some(group)) {
+            Ok(()) => Ok(()),
+            Err(error) => Err(unless_missing(error)),
+        }
     }
 
     fn set_mode(&mut self, file: &R::File, mode: u32) -> io::Result<()> {

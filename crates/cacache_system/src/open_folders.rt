@@ -23,9 +23,9 @@ const BELOW: usize = 4;
 /// The folders that walks hold open.
 pub(crate) struct OpenFolders<R: Files> {
     alloc: Global,
-    /// Whether the walks of now hold folders.
+    /// Whether walks were begun, and so hold folders.
     holds: bool,
-    /// Whether a walk is under way.
+    /// Whether a folder was listed since walks last ended.
     lists: bool,
     /// In the order in which they were opened.
     held: Vec<Held<R::File>>,
@@ -63,8 +63,8 @@ fn folder_at<R: Files>(rt: &R, path: &str) -> io::Result<Node> {
     }
 }
 
-/// The error of a listing through an open folder. That is there, so what is missing is `/proc`.
-fn unless_missing(error: io::Error) -> io::Error {
+/// The error of a call through what is open. That is there, so what is missing is `/proc`.
+pub(crate) fn unless_missing(error: io::Error) -> io::Error {
     match error.kind() {
         ErrorKind::NotFound => io::Error::from(ErrorKind::Unsupported),
         _ => error,
@@ -145,8 +145,9 @@ where
         }
     }
 
-    /// Holds the folders of walks from now on.
+    /// Forgets earlier walks, and holds the folders of those from now on.
     pub(crate) fn begin(&mut self) {
+        self.end();
         self.holds = true;
     }
 
@@ -163,7 +164,7 @@ where
         self.held.retain(|held| !leads(path, held.path.as_str()));
     }
 
-    /// Keeps that there is neither file, folder nor link at the path, if a walk is under way.
+    /// Keeps that there is neither file, folder nor link at the path, if a folder was listed.
     pub(crate) fn note_odd(&mut self, path: &str) -> Result<(), AllocError> {
         if !self.lists || self.is_odd(path) {
             return Ok(());
@@ -177,7 +178,7 @@ where
         open_path(self.alloc, file)
     }
 
-    /// Whether a walk is under way.
+    /// Whether a folder was listed since walks last ended.
     pub(crate) fn are_listed(&self) -> bool {
         self.lists
     }
@@ -249,15 +250,24 @@ where
             .retain(|held| held.is_first || leads(held.path.as_str(), folder));
     }
 
-    /// Opens the folder at the path by its name in the innermost that is held above it. No link is followed: what was
-    /// opened has to be what is named there.
+    /// Opens the folder at the path by its name in the innermost that is held above it.
     fn enter(&mut self, rt: &R, path: &str) -> io::Result<()> {
         let Some(there) = self.near(path)? else {
             return Err(no_folder());
         };
-        let named = folder_at(rt, there.as_str())?;
-        let opened = open_named(rt, self.alloc, there.as_str(), Some(named));
-        self.push(held_as(self.alloc, path, false, opened)?)
+        let opened = open_named(rt, self.alloc, there.as_str(), None);
+        let held = held_as(self.alloc, path, false, opened)?;
+        self.hold_named(rt, held, there.as_str())
+    }
+
+    /// Holds a folder that was opened, if it has that name. No link is followed, and while the folder is open no other one
+    /// is known by the same number.
+    fn hold_named(&mut self, rt: &R, held: Held<R::File>, there: &str) -> io::Result<()> {
+        match folder_at(rt, there) {
+            Ok(named) if named.is_same(held.node) => self.push(held),
+            Ok(_) => Err(no_folder()),
+            Err(error) => Err(error),
+        }
     }
 
     /// Holds one folder more.
@@ -362,7 +372,7 @@ where
         }
     }
 
-    /// Opens a folder to list it. Below a folder that is held no link is followed. Elsewhere a walk begins.
+    /// Opens a folder to list it, by its path unless walks were begun.
     pub(crate) fn list(&mut self, rt: &R, path: &str) -> io::Result<R::Dir> {
         self.lists = true;
         if self.holds {
@@ -372,7 +382,7 @@ where
         }
     }
 
-    /// Opens a folder to list it, and holds the one at which a walk begins.
+    /// Opens a folder to list it. Below a folder that is held no link is followed. Elsewhere a walk begins, which holds it.
     fn list_held(&mut self, rt: &R, path: &str) -> io::Result<R::Dir> {
         let folder = path.trim_end_matches('/');
         if self.is_first(folder) {
