@@ -43,13 +43,13 @@ static void begin(void) {
 /* A call's name, and the path that it is given, below an open folder too, or what lies open under its number. */
 static int show(char *line, size_t size, const char *name, const char *path, int fd) {
     char place[64], open_path[4096] = "";
-    const char *below = path && !strncmp(path, "/proc/self/fd/", 14) ? strchr(path + 14, '/') : NULL;
-    const char *rest = below ? below : path ? path : "";
-    if (below || !*rest) {
-        snprintf(place, sizeof place, "/proc/self/fd/%d", below ? atoi(path + 14) : fd);
+    const char *held = path && !strncmp(path, "/proc/self/fd/", 14) ? path + 14 : NULL;
+    const char *rest = held ? held + strspn(held, "0123456789") : path ? path : "";
+    if (held || !*rest) {
+        snprintf(place, sizeof place, "/proc/self/fd/%d", held ? atoi(held) : fd);
         long got = syscall(SYS_readlinkat, AT_FDCWD, place, open_path, sizeof open_path - 1);
         if (got > 0) open_path[got] = 0;
-        if (!below && fd < 3) strcpy(open_path, "stream");
+        if (!held && fd < 3) strcpy(open_path, "stream");
     }
     return snprintf(line, size, "%s %s%s\n", name, open_path, rest);
 }

@@ -45,105 +45,6 @@ const PLAIN: Ways = Ways {
     paths: false,
 };
 
-/// Plain ways, and the paths are noted.
-const TOLD: Ways = Ways {
-    paths: true,
-    ..PLAIN
-};
-
-/// Each read and write fails.
-const BROKEN: Ways = Ways {
-    fault: Some(ErrorKind::NotADirectory),
-    ..PLAIN
-};
-
-/// Each read and write is refused for memory.
-const FULL: Ways = Ways {
-    fault: Some(ErrorKind::OutOfMemory),
-    ..PLAIN
-};
-
-/// Each read and write finds no room.
-const NO_ROOM: Ways = Ways {
-    fault: Some(ErrorKind::StorageFull),
-    ..PLAIN
-};
-
-/// Each rename fails.
-const UNMOVED: Ways = Ways {
-    rename: Some(ErrorKind::PermissionDenied),
-    ..PLAIN
-};
-
-/// Each copy fails.
-const UNCOPIED: Ways = Ways {
-    copy: Some(ErrorKind::StorageFull),
-    ..PLAIN
-};
-
-/// No file gets an owner.
-const UNOWNED: Ways = Ways {
-    owner: Some(ErrorKind::PermissionDenied),
-    ..TOLD
-};
-
-/// No file gets a mode.
-const UNMODED: Ways = Ways {
-    mode: Some(ErrorKind::PermissionDenied),
-    ..TOLD
-};
-
-/// No fresh file is made.
-const UNMADE: Ways = Ways {
-    made: Some(ErrorKind::PermissionDenied),
-    ..PLAIN
-};
-
-/// Each name of a fresh file is taken.
-const TAKEN: Ways = Ways {
-    made: Some(ErrorKind::AlreadyExists),
-    ..PLAIN
-};
-
-/// Each rename is refused for memory.
-const CROWDED: Ways = Ways {
-    rename: Some(ErrorKind::OutOfMemory),
-    ..PLAIN
-};
-
-/// Each read and write moves one byte.
-const SHORT: Ways = Ways { most: 1, ..PLAIN };
-
-/// Each read and write moves one byte, and the first is interrupted.
-const ONCE: Ways = Ways {
-    interruptions: 1,
-    ..SHORT
-};
-
-/// Each read and write moves one byte, and the first five are interrupted.
-const OFTEN: Ways = Ways {
-    interruptions: 5,
-    ..SHORT
-};
-
-/// Each read and write moves one byte, and the first sixty-four are interrupted.
-const AT_LAST: Ways = Ways {
-    interruptions: 64,
-    ..SHORT
-};
-
-/// Each call on a path is denied.
-const DENIED: Ways = Ways {
-    refused: Some(ErrorKind::PermissionDenied),
-    ..PLAIN
-};
-
-/// Each call on a path fails for a reason without a name.
-const UNKNOWN: Ways = Ways {
-    refused: Some(ErrorKind::Uncategorized),
-    ..PLAIN
-};
-
 /// Why a read or a write may fail. One that is interrupted is made again.
 pub(crate) const KINDS: [ErrorKind; 41] = [
     ErrorKind::NotFound,
@@ -197,45 +98,54 @@ pub(crate) fn failing(kind: ErrorKind) -> Ways {
     }
 }
 
-/// Each read, write, sync and rename is denied.
-const DENIED_INSIDE: Ways = Ways {
-    fault: Some(ErrorKind::PermissionDenied),
-    rename: Some(ErrorKind::PermissionDenied),
-    ..PLAIN
-};
-
-/// Each read, write, sync and rename fails for a reason without a name.
-const UNKNOWN_INSIDE: Ways = Ways {
-    fault: Some(ErrorKind::Uncategorized),
-    rename: Some(ErrorKind::Uncategorized),
-    ..PLAIN
-};
-
 /// The ways of a name.
 fn named(name: &str) -> Result<Ways, Flaw> {
-    Ok(match name {
-        "plain" => PLAIN,
-        "told" => TOLD,
-        "broken" => BROKEN,
-        "full" => FULL,
-        "no-room" => NO_ROOM,
-        "unmoved" => UNMOVED,
-        "uncopied" => UNCOPIED,
-        "unowned" => UNOWNED,
-        "unmoded" => UNMODED,
-        "unmade" => UNMADE,
-        "taken" => TAKEN,
-        "crowded" => CROWDED,
-        "short" => SHORT,
-        "once" => ONCE,
-        "often" => OFTEN,
-        "at-last" => AT_LAST,
-        "denied" => DENIED,
-        "unknown" => UNKNOWN,
-        "denied-inside" => DENIED_INSIDE,
-        "unknown-inside" => UNKNOWN_INSIDE,
+    let denied = Some(ErrorKind::PermissionDenied);
+    let unknown = Some(ErrorKind::Uncategorized);
+    let mut ways = PLAIN;
+    match name {
+        "plain" => {}
+        "told" => ways.paths = true,
+        // Each read and write fails, is refused for memory, or finds no room.
+        "broken" => ways.fault = Some(ErrorKind::NotADirectory),
+        "full" => ways.fault = Some(ErrorKind::OutOfMemory),
+        "no-room" => ways.fault = Some(ErrorKind::StorageFull),
+        // Each rename fails, or is refused for memory.
+        "unmoved" => ways.rename = denied,
+        "crowded" => ways.rename = Some(ErrorKind::OutOfMemory),
+        // Each copy fails.
+        "uncopied" => ways.copy = Some(ErrorKind::StorageFull),
+        // No fresh file is made, or each name of one is taken.
+        "unmade" => ways.made = denied,
+        "taken" => ways.made = Some(ErrorKind::AlreadyExists),
+        // Each call on a path is denied, or fails for a reason without a name.
+        "denied" => ways.refused = denied,
+        "unknown" => ways.refused = unknown,
+        _ => return together(name),
+    }
+    Ok(ways)
+}
+
+/// The ways of a name that says more than one thing.
+fn together(name: &str) -> Result<Ways, Flaw> {
+    let denied = Some(ErrorKind::PermissionDenied);
+    let unknown = Some(ErrorKind::Uncategorized);
+    let mut ways = PLAIN;
+    match name {
+        // No file gets an owner or a mode, and the paths are noted.
+        "unowned" => (ways.owner, ways.paths) = (denied, true),
+        "unmoded" => (ways.mode, ways.paths) = (denied, true),
+        // Each read and write moves one byte, and the first so many are interrupted.
+        "short" => ways.most = 1,
+        "once" => (ways.most, ways.interruptions) = (1, 1),
+        "often" => (ways.most, ways.interruptions) = (1, 5),
+        "at-last" => (ways.most, ways.interruptions) = (1, 64),
+        // Each read, write, sync and rename is denied, or fails for a reason without a name.
+        "denied-inside" => (ways.fault, ways.rename) = (denied, denied),
+        "unknown-inside" => (ways.fault, ways.rename) = (unknown, unknown),
         _ => return Err(Flaw::NotRead),
-    })
+    }
+    Ok(ways)
 }
 
 /// Files that give so many bytes as their size; `slow` ones are also interrupted once, and then give three bytes at a

@@ -29,7 +29,6 @@ mod row;
 mod streams;
 mod told;
 mod trials;
-mod walks;
 mod words;
 mod writers;
 

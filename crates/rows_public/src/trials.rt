@@ -1,8 +1,7 @@
 //! Acts with one step that fails, with each fault in turn, on a disk in memory of their own.
 use crate::acts::made;
-use crate::failing::Failing;
+use crate::failing::{Failing, Walks};
 use crate::row::Row;
-use crate::walks::Walks;
 use cacache::errors::Fault;
 use cacache::store::MemStore;
 use cacache_core::keeping::let_go;

@@ -37,12 +37,6 @@ impl<'a, S: Store> Store for Counting<'a, S> {
         self.store.step(step)
     }
 
-    fn begin_walks(&mut self)
-        ensures logged { S.log self.new.store ≡ S.log self.old.store }
-    {
-        self.store.begin_walks();
-    }
-
     fn end_walks(&mut self)
         ensures logged { S.log self.new.store ≡ S.log self.old.store }
     {

@@ -3,8 +3,8 @@
 ghost use Rattle.std.specs.{Prelude.{None, Some, if◌then◌else◌, is_some}, declared.io.ErrorKind.{ErrorKind}};
 ghost use Rattle.cacache.specs.Stores.{Fits, Logs, plain_step, plain_answer};
 
+use crate::failing::Walks;
 use crate::keep::stuck::Kind;
-use crate::walks::Walks;
 use cacache::env::Reasons;
 use cacache::errors::Fault;
 use cacache::store::{Answer, Step, Store};
@@ -51,7 +51,7 @@ impl<S: Store> Store for Dated<S> {
         ensures logged { Logs None None (plain_step S.File.seen S.Temp.seen step)
             (plain_answer S.File.seen S.Temp.seen result) }
     {
-        if self.walks.refuse(&step) {
+        if self.walks.refuses(&step) {
             let_go(step);
             return Answer::Failed(Fault::Device);
         }
