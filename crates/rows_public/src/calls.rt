@@ -2,8 +2,7 @@
 //! Each function knows some of the names and hands on the others.
 use crate::lines::{contents, done, exists, first, found, has, listed, read};
 use crate::options::options_of;
-use crate::row::Row;
-use crate::words::bytes_of;
+use crate::row::{Row, bytes_of};
 use cacache::content::path::content_path;
 use cacache::content::read::{has_content, list};
 use cacache::content::rm::rm;

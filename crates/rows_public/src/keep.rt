@@ -21,7 +21,6 @@
 
 mod acts;
 mod dated;
-mod many;
 mod places;
 mod shown;
 mod stuck;

@@ -29,7 +29,6 @@ mod row;
 mod streams;
 mod told;
 mod trials;
-mod words;
 mod writers;
 
 use places::{Places, outcome};

@@ -2,7 +2,7 @@
 ghost use Rattle.std.specs.Prelude.{IfOk};
 ghost use Rattle.cacache.specs.OpenHandles.{IsListing};
 
-use crate::words::shown;
+use crate::row::shown;
 use cacache::content::read::Contents;
 use cacache::ls::Ls;
 use cacache::store::Store;

@@ -1,8 +1,7 @@
 //! Runs of the program, and its start without words.
 use crate::acts::made;
-use crate::row::Row;
+use crate::row::{Row, bytes_of, shown, words_of};
 use crate::streams::{End, Input, Output};
-use crate::words::{bytes_of, shown, words_of};
 use cacache::Error;
 use cacache::env::Reasons;
 use cacache::world::{StormFault, WorldFault};

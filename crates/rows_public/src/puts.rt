@@ -1,5 +1,5 @@
 //! Puts as commands, which `jobs::call` makes, or `jobs::drive` as a job.
-use crate::words::bytes_of;
+use crate::row::bytes_of;
 use cacache::bytes::Bytes;
 use cacache::jobs::{Command, Job, Json, Options, Put, Reply, call, drive};
 use cacache::store::Store;

@@ -2,8 +2,8 @@
 //! bytes are read at first, and what is done then. The input is the path of the content if that is spoilt, or how many
 //! bytes an output takes.
 use crate::lines::{copied, pair};
+use crate::row::shown;
 use crate::streams::Output;
-use crate::words::shown;
 use cacache::content::read::open;
 use cacache::store::{OpenedFile, Store};
 use cacache::{Result as Answered, SyncReader};

@@ -1,6 +1,7 @@
-//! The columns of a row.
+//! The columns of a row, the program's words, and bytes as words.
 use rows::Flaw;
-use rows::words::column;
+use rows::words::{column, string_of, word_of, written_out};
+use std::alloc::{AllocError, Global};
 
 /// The three columns of a row.
 #[derive(Clone, Copy)]
@@ -17,4 +18,34 @@ pub(crate) fn row_of(line: &str) -> Result<Row<'_>, Flaw> {
     let (act, rest) = column(line)?;
     let (input, wanted) = column(rest)?;
     Ok(Row { act, input, wanted })
+}
+
+/// Puts a word after the others.
+pub(crate) fn push(
+    words: &mut Vec<String>,
+    word: Result<String, AllocError>,
+) -> Result<(), AllocError> {
+    words.push(word?)?;
+    Ok(())
+}
+
+/// The words of a text.
+pub(crate) fn words_of(alloc: Global, text: &str) -> Result<Vec<String>, AllocError> {
+    let mut words = Vec::new(alloc);
+    for word in text.split(' ') {
+        if word != "-" {
+            push(&mut words, String::from_str(alloc, word))?;
+        }
+    }
+    Ok(words)
+}
+
+/// The bytes of a word.
+pub(crate) fn bytes_of(alloc: Global, word: &str) -> Result<Vec<u8>, AllocError> {
+    Ok(string_of(alloc, word)?.into_bytes())
+}
+
+/// Bytes as a word.
+pub(crate) fn shown(alloc: Global, bytes: &[u8]) -> Result<String, AllocError> {
+    written_out(alloc, word_of(bytes))
 }

@@ -1,12 +1,13 @@
 //! What the rows do. Each function knows some of the names and hands on the others.
 use crate::keep::dated::Dated;
-use crate::keep::many::written_each;
 use crate::keep::shown::{done, found, printed, told};
 use crate::keep::stuck::Kind;
+use crate::row::push;
 use cacache::env::{Clock, Env, Names, Reasons};
 use cacache::errors::Fault;
 use cacache::store::Store;
 use cacache::{Integrity, Result as Answered, WriteOpts};
+use cacache_core::keeping::let_go;
 use cacache_keep::{
     CollectOpts, CompactOpts, OddLines, collect, compact, plan, repair, repair_with, sweep, touch,
     verify,
@@ -20,12 +21,6 @@ use rows::Flaw;
 use rows::answers::refused;
 use rows::words::{cut, number_of, string_of};
 use std::alloc::{AllocError, Global};
-
-/// Puts a word after the others.
-fn push(words: &mut Vec<String>, word: Result<String, AllocError>) -> Result<(), AllocError> {
-    words.push(word?)?;
-    Ok(())
-}
 
 /// The words of a text.
 fn words_of(alloc: Global, text: &str) -> Result<Vec<String>, AllocError> {
@@ -269,4 +264,21 @@ pub(crate) fn made<S: Reasons>(
     let came = made_now(env, act, input);
     env.store.changed = Err(Fault::Unsupported);
     came
+}
+
+/// Writes the digits of a number under themselves.
+fn write_digits<S: Store>(env: &mut On<S>, cache: &str, number: usize) -> Answered<()> {
+    let digits = format!(in env.alloc; "{number}")?;
+    let stored = cacache::write_sync(env, cache, digits.as_str(), digits.as_bytes());
+    let_go(digits);
+    let_go(stored?);
+    Ok(())
+}
+
+/// Writes so many contents.
+fn written_each<S: Store>(env: &mut On<S>, cache: &str, count: usize) -> Answered<()> {
+    for number in 0..count {
+        write_digits(env, cache, number)?;
+    }
+    Ok(())
 }
