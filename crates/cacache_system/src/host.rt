@@ -3,7 +3,7 @@
 ghost use Rattle.std.specs.{Prelude.{◌≡◌, ◌++◌, None, OnOk, IfSome}, Io.{StartsWith}};
 
 use crate::call::FileInfo;
-use crate::held::Node;
+use crate::held::{Node, open_path};
 use crate::open_folders::{OpenFolders, unless_missing, unless_other};
 use crate::system::System;
 use cacache_core::text::Text;
@@ -20,7 +20,11 @@ use std::rt::Files;
 /// A runtime's files as the system. It keeps no log.
 pub struct Host<R: Files> {
     rt: R,
-    walks: OpenFolders<R>,
+    alloc: Global,
+    /// Whether walks were begun, and so hold folders.
+    holds: bool,
+    /// What walks know since one listed a folder. In a box, since a system is moved with each file of a store.
+    walks: Option<Box<OpenFolders<R>>>,
 }
 
 // Written out, since each function that drops a file of real folders would prove a derived one again.
@@ -28,6 +32,8 @@ impl<R: Files + Drop> Drop for Host<R> {
     fn drop(self) {
         let Host {
             rt: _rt,
+            alloc: _,
+            holds: _,
             walks: _walks,
         } = self;
     }
@@ -41,8 +47,13 @@ where
     pub fn new(rt: R) -> Host<R>
         ensures { result.rt ≡ rt }
     {
-        let walks = OpenFolders::new(rt.alloc());
-        Host { rt, walks }
+        let alloc = rt.alloc();
+        Host {
+            rt,
+            alloc,
+            holds: false,
+            walks: None,
+        }
     }
 }
 
@@ -70,10 +81,28 @@ where
 {
     /// Refuses to open what a walk found to be neither file, folder nor link, and still is: that could wait for ever.
     fn refuse_odd(&self, path: &str, there: &str) -> io::Result<()> {
-        if self.walks.is_odd(path) && leads_to_odd(&self.rt, there) {
-            return Err(io::Error::from(ErrorKind::Unsupported));
+        match &self.walks {
+            Some(walks) if walks.is_odd(path) && leads_to_odd(&self.rt, there) => {
+                Err(io::Error::from(ErrorKind::Unsupported))
+            }
+            _ => Ok(()),
         }
-        Ok(())
+    }
+
+    /// Where to ask for what is at a path, if a walk leads there.
+    fn near(&self, path: &str) -> Result<Option<String>, AllocError> {
+        match &self.walks {
+            Some(walks) => walks.near(path),
+            None => Ok(None),
+        }
+    }
+
+    /// Where to change what is at a path, if a walk leads there.
+    fn within(&mut self, path: &str) -> io::Result<Option<String>> {
+        match &mut self.walks {
+            Some(walks) => walks.within(&self.rt, path),
+            None => Ok(None),
+        }
     }
 }
 
@@ -134,18 +163,13 @@ fn open_plain<R: Files>(rt: &R, path: &str) -> io::Result<R::File> {
         return Err(io::Error::from(ErrorKind::Unsupported));
     }
     let opened = File::options().append(true).open(rt, path);
-    match unless_other(opened, Some(Node::of(&named))) {
-        Ok((file, _)) => Ok(file),
-        Err(error) => Err(error),
-    }
+    let (file, _) = unless_other(opened, Some(Node::of(&named)))?;
+    Ok(file)
 }
 
 /// Whether the path leads to what is neither file nor folder.
 fn leads_to_odd<R: Files>(rt: &R, path: &str) -> bool {
-    match rt.metadata(path) {
-        Ok(metadata) => is_odd(&metadata),
-        Err(_) => false,
-    }
+    rt.metadata(path).is_ok_and(|metadata| is_odd(&metadata))
 }
 
 /// The path by which to ask for what is at a path: another, if a walk leads there.
@@ -171,14 +195,14 @@ where
     ghost calls = { λ _. None };
 
     fn open_to_read(&mut self, path: &str) -> io::Result<R::File> {
-        let near = self.walks.near(path)?;
+        let near = self.near(path)?;
         let there = by(path, &near);
         self.refuse_odd(path, there)?;
         File::open(&self.rt, there)
     }
 
     fn create_new(&mut self, path: &str, mode: u32) -> io::Result<R::File> {
-        let within = self.walks.within(&self.rt, path)?;
+        let within = self.within(path)?;
         File::options()
             .write(true)
             .create_new(true)
@@ -187,7 +211,7 @@ where
     }
 
     fn open_to_append(&mut self, path: &str) -> io::Result<R::File> {
-        match self.walks.within(&self.rt, path)? {
+        match self.within(path)? {
             Some(within) => open_plain(&self.rt, within.as_str()),
             None => {
                 self.refuse_odd(path, path)?;
@@ -200,7 +224,17 @@ where
     }
 
     fn open_folder(&mut self, path: &str) -> io::Result<R::Dir> {
-        self.walks.list(&self.rt, path)
+        let mut walks = match self.walks.take() {
+            Some(walks) => walks,
+            None => Box::new(self.alloc, OpenFolders::new(self.alloc))?,
+        };
+        let listing = if self.holds {
+            walks.list(&self.rt, path)
+        } else {
+            self.rt.open_dir(path)
+        };
+        self.walks = Some(walks);
+        listing
     }
 
     fn read(&mut self, file: &mut R::File, buf: &mut [u8]) -> io::Result<usize> {
@@ -230,11 +264,10 @@ where
 
     // The kit's call takes a path. That of the open file leads to it, whatever stands at its name by now.
     fn set_owner(&mut self, file: &R::File, owner: u32, group: u32) -> io::Result<()> {
-        let path = self.walks.path_of(file)?;
-        match self.rt.chown(path.as_str(), Some(owner), Some(group)) {
-            Ok(()) => Ok(()),
-            Err(error) => Err(unless_missing(error)),
-        }
+        let path = open_path(self.alloc, file)?;
+        self.rt
+            .chown(path.as_str(), Some(owner), Some(group))
+            .map_err(unless_missing)
     }
 
     fn set_mode(&mut self, file: &R::File, mode: u32) -> io::Result<()> {
@@ -246,39 +279,45 @@ where
     }
 
     fn stat(&mut self, path: &str) -> io::Result<FileInfo> {
-        let near = self.walks.near(path)?;
+        let near = self.near(path)?;
         Ok(info(&self.rt.metadata(by(path, &near))?))
     }
 
     fn stat_link(&mut self, path: &str) -> io::Result<FileInfo> {
-        let near = self.walks.near(path)?;
+        let near = self.near(path)?;
         let there = by(path, &near);
         let metadata = self.rt.symlink_metadata(there)?;
-        let is_led = metadata.is_symlink() && self.walks.are_listed();
-        if is_odd(&metadata) || is_led && leads_to_odd(&self.rt, there) {
-            self.walks.note_odd(path)?;
+        if let Some(walks) = &mut self.walks {
+            if is_odd(&metadata) || metadata.is_symlink() && leads_to_odd(&self.rt, there) {
+                walks.note_odd(path)?;
+            }
         }
         Ok(info(&metadata))
     }
 
     fn rename(&mut self, from: &str, to: &str) -> io::Result<()> {
-        let (away, there) = self.walks.within_both(&self.rt, from, to)?;
+        let Some(walks) = &mut self.walks else {
+            return self.rt.rename(from, to);
+        };
+        let (away, there) = walks.within_both(&self.rt, from, to)?;
         self.rt.rename(by(from, &away), by(to, &there))
     }
 
     fn make_folder(&mut self, path: &str) -> io::Result<()> {
-        let within = self.walks.within(&self.rt, path)?;
+        let within = self.within(path)?;
         self.rt.create_dir(by(path, &within))
     }
 
     fn remove_file(&mut self, path: &str) -> io::Result<()> {
-        let within = self.walks.within(&self.rt, path)?;
+        let within = self.within(path)?;
         self.rt.remove_file(by(path, &within))
     }
 
     fn remove_folder(&mut self, path: &str) -> io::Result<()> {
-        let within = self.walks.within(&self.rt, path)?;
-        self.walks.leave(path);
+        let within = self.within(path)?;
+        if let Some(walks) = &mut self.walks {
+            walks.leave(path);
+        }
         self.rt.remove_dir(by(path, &within))
     }
 
@@ -299,7 +338,7 @@ where
     }
 
     fn changed(&mut self, path: &str) -> io::Result<u64> {
-        let within = self.walks.within(&self.rt, path)?;
+        let within = self.within(path)?;
         let metadata = self.rt.symlink_metadata(by(path, &within))?;
         let written = in_millis(metadata.mtime(), metadata.mtime_nsec());
         Ok(written.max(in_millis(metadata.ctime(), metadata.ctime_nsec())))
@@ -310,10 +349,12 @@ where
     }
 
     fn begin_walks(&mut self) {
-        self.walks.begin();
+        self.holds = true;
+        self.walks = None;
     }
 
     fn end_walks(&mut self) {
-        self.walks.end();
+        self.holds = false;
+        self.walks = None;
     }
 }

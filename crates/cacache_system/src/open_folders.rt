@@ -23,10 +23,6 @@ const BELOW: usize = 4;
 /// The folders that walks hold open.
 pub(crate) struct OpenFolders<R: Files> {
     alloc: Global,
-    /// Whether walks were begun, and so hold folders.
-    holds: bool,
-    /// Whether a folder was listed since walks last ended.
-    lists: bool,
     /// In the order in which they were opened.
     held: Vec<Held<R::File>>,
     /// Paths at which the walks found neither file, folder nor link.
@@ -37,8 +33,6 @@ impl<R: Files> Drop for OpenFolders<R> {
     fn drop(self) {
         let OpenFolders {
             alloc: _,
-            holds: _,
-            lists: _,
             held: _held,
             odd: _odd,
         } = self;
@@ -138,25 +132,9 @@ where
     pub(crate) fn new(alloc: Global) -> OpenFolders<R> {
         OpenFolders {
             alloc,
-            holds: false,
-            lists: false,
             held: Vec::new(alloc),
             odd: Vec::new(alloc),
         }
-    }
-
-    /// Forgets earlier walks, and holds the folders of those from now on.
-    pub(crate) fn begin(&mut self) {
-        self.end();
-        self.holds = true;
-    }
-
-    /// Closes all, since the walks are over.
-    pub(crate) fn end(&mut self) {
-        self.holds = false;
-        self.lists = false;
-        self.held.clear();
-        self.odd.clear();
     }
 
     /// Closes a folder and those below it, since it is removed.
@@ -164,23 +142,12 @@ where
         self.held.retain(|held| !leads(path, held.path.as_str()));
     }
 
-    /// Keeps that there is neither file, folder nor link at the path, if a folder was listed.
+    /// Keeps that there is neither file, folder nor link at the path.
     pub(crate) fn note_odd(&mut self, path: &str) -> Result<(), AllocError> {
-        if !self.lists || self.is_odd(path) {
-            return Ok(());
+        if !self.is_odd(path) {
+            self.odd.push(String::from_str(self.alloc, path)?)?;
         }
-        self.odd.push(String::from_str(self.alloc, path)?)?;
         Ok(())
-    }
-
-    /// A path that leads to an open file.
-    pub(crate) fn path_of(&self, file: &R::File) -> Result<String, AllocError> {
-        open_path(self.alloc, file)
-    }
-
-    /// Whether a folder was listed since walks last ended.
-    pub(crate) fn are_listed(&self) -> bool {
-        self.lists
     }
 
     /// Whether a walk found neither file, folder nor link at the path.
@@ -372,18 +339,8 @@ where
         }
     }
 
-    /// Opens a folder to list it, by its path unless walks were begun.
-    pub(crate) fn list(&mut self, rt: &R, path: &str) -> io::Result<R::Dir> {
-        self.lists = true;
-        if self.holds {
-            self.list_held(rt, path)
-        } else {
-            rt.open_dir(path)
-        }
-    }
-
     /// Opens a folder to list it. Below a folder that is held no link is followed. Elsewhere a walk begins, which holds it.
-    fn list_held(&mut self, rt: &R, path: &str) -> io::Result<R::Dir> {
+    pub(crate) fn list(&mut self, rt: &R, path: &str) -> io::Result<R::Dir> {
         let folder = path.trim_end_matches('/');
         if self.is_first(folder) {
             // It stays open, so that no link that took its place is followed.
