@@ -42,7 +42,7 @@ where
         "hostile" => rows_hostile::all_hold(host, rows),
         "polled" => rows_polled::all_hold(rt, rows),
         "public" => rows_public::all_hold(rt, host, rows),
-        "keep" => rows_public::keep::all_hold(host, rows),
+        "keep" => rows_keep::all_hold(host, rows),
         _ => {
             println!(host; "no rows have this name")?;
             Ok(false)

@@ -1,5 +1,6 @@
 //! Words of rows: `-` stands for nothing, `\n` for a line feed, `\t` for a tab, and `\0` for a NUL.
 use crate::flaw::Flaw;
+use cacache_core::keeping::beside;
 use std::alloc::{AllocError, Global};
 
 /// The first column of a row, and the columns after it.
@@ -13,6 +14,21 @@ pub fn column(row: &str) -> Result<(&str, &str), Flaw> {
 /// The first word of a text, and what follows it.
 pub fn cut(text: &str) -> (&str, &str) {
     text.split_once(' ').unwrap_or((text, ""))
+}
+
+/// Puts a word after the others.
+fn push(words: &mut Vec<String>, word: Result<String, AllocError>) -> Result<(), AllocError> {
+    words.push(word?)?;
+    Ok(())
+}
+
+/// The words of a text.
+pub fn words_of(alloc: Global, text: &str) -> Result<Vec<String>, AllocError> {
+    let mut words = Vec::new(alloc);
+    for word in text.split(' ') {
+        push(&mut words, String::from_str(alloc, word))?;
+    }
+    Ok(words)
 }
 
 /// Whether a word stands for nothing.
@@ -74,4 +90,16 @@ pub fn written_out(alloc: Global, text: &str) -> Result<String, AllocError> {
     let text = text.replace(alloc, "\n", "\\n")?;
     let text = text.replace(alloc, "\t", "\\t")?;
     text.replace(alloc, "\0", "\\0")
+}
+
+/// The status, the output and the errors of a run of a program.
+pub fn printed(
+    alloc: Global,
+    status: u8,
+    output: &[u8],
+    errors: &[u8],
+) -> Result<String, AllocError> {
+    let output = written_out(alloc, word_of(output))?;
+    let (errors, output) = beside(written_out(alloc, word_of(errors)), output)?;
+    format!(in alloc; "{status} | {output} | {errors}")
 }

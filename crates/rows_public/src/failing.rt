@@ -1,10 +1,11 @@
-//! A store with one step that fails, and what a store hears of walks.
+//! A store with one step that fails.
 ghost use Rattle.std.specs.Prelude.{None};
 ghost use Rattle.cacache.specs.Stores.{Fits, Logs, plain_step, plain_answer};
 
 use cacache::errors::Fault;
 use cacache::store::{Answer, Step, Store};
 use cacache_core::keeping::let_go;
+use row_places::Walks;
 
 /// Another store, with one step that fails.
 #[derive(Drop)]
@@ -59,41 +60,5 @@ impl<'a, S: Store> Store for Failing<'a, S> {
     fn end_walks(&mut self) {
         self.walks = Walks::new();
         self.store.end_walks();
-    }
-}
-
-/// Whether a call listed folders, and whether it had begun its walks before.
-#[derive(Clone, Copy)]
-pub(crate) struct Walks {
-    is_begun: bool,
-    is_listed: bool,
-}
-
-impl Walks {
-    /// No walk is under way.
-    pub(crate) fn new() -> Walks {
-        Walks {
-            is_begun: false,
-            is_listed: false,
-        }
-    }
-
-    /// Walks begin.
-    pub(crate) fn begin(&mut self) {
-        self.is_begun = true;
-    }
-
-    /// Whether a step changes something in a walk that the call didn't begin. Notes a listing.
-    pub(crate) fn refuses<F, T>(&mut self, step: &Step<F, T>) -> bool {
-        match step {
-            Step::ReadDir(_) => {
-                self.is_listed = true;
-                false
-            }
-            Step::RemoveFile(_) | Step::RemoveDir(_) | Step::Append(_, _) | Step::Persist(_, _) => {
-                self.is_listed && !self.is_begun
-            }
-            _ => false,
-        }
     }
 }

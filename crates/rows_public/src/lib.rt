@@ -5,8 +5,6 @@
 //!
 //! A row holds if the act with this input gives this result at each place, and the future logs what the call logs. The rows
 //! of a group that hold are counted, and each other row is printed with what was wanted and what came.
-//!
-//! The module `keep` tries the program `cacache-keep`.
 #![tactic(auto)]
 
 mod acts;
@@ -14,7 +12,6 @@ mod awaited;
 mod calls;
 mod exports;
 mod failing;
-pub mod keep;
 mod layers;
 mod lines;
 mod linkers;

@@ -1,6 +1,6 @@
 //! Runs of the program, and its start without words.
 use crate::acts::made;
-use crate::row::{Row, bytes_of, shown, words_of};
+use crate::row::{Row, bytes_of, words_of};
 use crate::streams::{End, Input, Output};
 use cacache::Error;
 use cacache::env::Reasons;
@@ -8,7 +8,7 @@ use cacache::world::{StormFault, WorldFault};
 use cacache_program::{Errors, USAGE, asks_why, run, said, tell, tell_failed_storm, without_words};
 use row_places::On;
 use rows::Flaw;
-use rows::words::{cut, number_of};
+use rows::words::{cut, number_of, printed};
 use std::alloc::{AllocError, Global};
 use std::io::{self, ErrorKind};
 use std::sync::Wait;
@@ -41,13 +41,6 @@ fn run_of(act: &str) -> Result<Run<'_>, Flaw> {
     Ok(Run { words, end, room })
 }
 
-/// A status, an output and errors, as a row says them.
-fn told(alloc: Global, status: u8, output: &[u8], errors: &[u8]) -> Result<String, AllocError> {
-    let output = shown(alloc, output)?;
-    let errors = shown(alloc, errors)?;
-    format!(in alloc; "{status} | {output} | {errors}")
-}
-
 /// What a run of the program with these words and this input gives.
 fn ran_with<T: Threads + Wait + Clock + AllocGlobal + Sync, S: Reasons>(
     rt: &T,
@@ -67,7 +60,7 @@ fn ran_with<T: Threads + Wait + Clock + AllocGlobal + Sync, S: Reasons>(
         Some(status) => status,
         None => run(rt, env, words, &mut input, &mut output, &mut errors),
     };
-    told(alloc, status, &output.taken, &errors.output)
+    printed(alloc, status, &output.taken, &errors.output)
 }
 
 /// What a run of the program gives.
@@ -108,7 +101,7 @@ pub(crate) fn ended(alloc: Global, why: &str) -> Result<String, Flaw> {
     };
     let mut errors = Errors::new(Vec::new(alloc));
     let status = tell_failed_storm(&mut errors, fault);
-    Ok(told(alloc, status, b"", &errors.output)?)
+    Ok(printed(alloc, status, b"", &errors.output)?)
 }
 
 /// What is reported if the words can't be had, since memory ran out or a word isn't UTF-8.
@@ -120,5 +113,5 @@ pub(crate) fn without(alloc: Global, why: &str) -> Result<String, Flaw> {
     };
     let mut errors = Errors::new(Vec::new(alloc));
     let status = without_words(&io::Error::from(kind), USAGE, &mut errors);
-    Ok(told(alloc, status, b"", &errors.output)?)
+    Ok(printed(alloc, status, b"", &errors.output)?)
 }

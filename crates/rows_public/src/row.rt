@@ -1,6 +1,6 @@
 //! The columns of a row, the program's words, and bytes as words.
 use rows::Flaw;
-use rows::words::{column, string_of, word_of, written_out};
+use rows::words::{self, column, string_of, word_of, written_out};
 use std::alloc::{AllocError, Global};
 
 /// The three columns of a row.
@@ -20,23 +20,10 @@ pub(crate) fn row_of(line: &str) -> Result<Row<'_>, Flaw> {
     Ok(Row { act, input, wanted })
 }
 
-/// Puts a word after the others.
-pub(crate) fn push(
-    words: &mut Vec<String>,
-    word: Result<String, AllocError>,
-) -> Result<(), AllocError> {
-    words.push(word?)?;
-    Ok(())
-}
-
-/// The words of a text.
+/// The words of a text, without those that stand for nothing.
 pub(crate) fn words_of(alloc: Global, text: &str) -> Result<Vec<String>, AllocError> {
-    let mut words = Vec::new(alloc);
-    for word in text.split(' ') {
-        if word != "-" {
-            push(&mut words, String::from_str(alloc, word))?;
-        }
-    }
+    let mut words = words::words_of(alloc, text)?;
+    words.retain(|word| word.as_str() != "-");
     Ok(words)
 }
 

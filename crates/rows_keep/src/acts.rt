@@ -1,8 +1,7 @@
 //! What the rows do. Each function knows some of the names and hands on the others.
-use crate::keep::dated::Dated;
-use crate::keep::shown::{done, found, printed, told};
-use crate::keep::stuck::Kind;
-use crate::row::push;
+use crate::dated::Dated;
+use crate::shown::{done, found, told};
+use crate::stuck::Kind;
 use cacache::env::{Clock, Env, Names, Reasons};
 use cacache::errors::Fault;
 use cacache::store::Store;
@@ -19,17 +18,8 @@ use row_places::planting::{held, make_folder, plant, plant_link};
 use row_places::{MOMENT, On};
 use rows::Flaw;
 use rows::answers::refused;
-use rows::words::{cut, number_of, string_of};
+use rows::words::{cut, number_of, printed, string_of, words_of};
 use std::alloc::{AllocError, Global};
-
-/// The words of a text.
-fn words_of(alloc: Global, text: &str) -> Result<Vec<String>, AllocError> {
-    let mut words = Vec::new(alloc);
-    for word in text.split(' ') {
-        push(&mut words, String::from_str(alloc, word))?;
-    }
-    Ok(words)
-}
 
 /// What a run of the program with these words gives.
 fn ran_with<S: Stamps + Reasons, C: Clock, N: Names>(

@@ -1,6 +1,6 @@
 //! Answers of calls, as rows say them.
 use cacache::{Integrity, Result as Answered};
-use cacache_core::keeping::{beside, let_go};
+use cacache_core::keeping::let_go;
 use cacache_core::text::Text;
 use cacache_keep::{Collected, Collection, Compacted, Planned, Repaired, Swept, Unused, Verdict};
 use rows::Flaw;
@@ -144,16 +144,4 @@ pub(crate) fn found(
         Some(bytes) => bytes.shown(alloc),
         None => String::from_str(alloc, "none"),
     }
-}
-
-/// The status, the output and the errors of a run of the program.
-pub(crate) fn printed(
-    alloc: Global,
-    status: u8,
-    output: &[u8],
-    errors: &[u8],
-) -> Result<String, AllocError> {
-    let output = written_out(alloc, word_of(output))?;
-    let (errors, output) = beside(written_out(alloc, word_of(errors)), output)?;
-    format!(in alloc; "{status} | {output} | {errors}")
 }

@@ -3,13 +3,13 @@
 ghost use Rattle.std.specs.{Prelude.{None, Some, if◌then◌else◌, is_some}, declared.io.ErrorKind.{ErrorKind}};
 ghost use Rattle.cacache.specs.Stores.{Fits, Logs, plain_step, plain_answer};
 
-use crate::failing::Walks;
-use crate::keep::stuck::Kind;
+use crate::stuck::Kind;
 use cacache::env::Reasons;
 use cacache::errors::Fault;
 use cacache::store::{Answer, Step, Store};
 use cacache_core::keeping::let_go;
 use cacache_store::store::Stamps;
+use row_places::Walks;
 use std::io::ErrorKind;
 
 /// Another store, which says of each path that it changed then.

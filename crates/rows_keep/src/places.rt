@@ -1,6 +1,6 @@
 //! A disk in memory and real folders, which go through the same rows.
-use crate::keep::acts::made;
-use crate::keep::dated::Dated;
+use crate::acts::made;
+use crate::dated::Dated;
 use cacache::env::Env;
 use cacache::store::{FolderStore, MemStore};
 use row_places::{On, in_both, in_folders, in_memory};

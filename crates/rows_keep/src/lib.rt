@@ -18,6 +18,7 @@
 //!
 //! A row holds if the act with this input gives this result at both places. The rows of a group that hold are counted, and
 //! each other row is printed with what was wanted and what came.
+#![tactic(auto)]
 
 mod acts;
 mod dated;
