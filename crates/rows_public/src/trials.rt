@@ -1,11 +1,11 @@
 //! Acts with one step that fails, with each fault in turn, on a disk in memory of their own.
 use crate::acts::made;
-use crate::failing::{Failing, Walks};
+use crate::failing::Failing;
 use crate::row::Row;
 use cacache::errors::Fault;
 use cacache::store::MemStore;
 use cacache_core::keeping::let_go;
-use row_places::{On, in_memory, on};
+use row_places::{On, Walks, in_memory, on};
 use rows::Flaw;
 use std::alloc::{AllocError, Global};
 
