@@ -4,9 +4,9 @@
    `stays N` (and so does each later one of its name on the same path), `lasts N` (and so does each later one of its name, but not on a
    stream), `short` (a read or a write takes half of its bytes), `before`, `half` and `after` (the process is killed before the call, once
    a half was read or written, or after the call), `first` (EACH_FIRST, a command of the shell, is run before it), or `swap` (the paths
-   EACH_FOLDER and EACH_LINK are exchanged before it). EACH_TELL is a file that gets a line for that call, and for each call if EACH_AT is
-   0: its name, and the path or what lies open under its number. With `swap` the line says whether the folder was opened before. What
-   changed before EACH_OLD, in nanoseconds, is a day older as a statx says it. */
+   EACH_FOLDER and EACH_LINK are exchanged before it, or the second is moved if nothing is at the first). EACH_TELL is a file that gets a
+   line for that call, and for each call if EACH_AT is 0: its name, and the path or what lies open under its number. With `swap` the line
+   says whether the folder was opened before. What changed before EACH_OLD, in nanoseconds, is a day older as a statx says it. */
 #define _GNU_SOURCE
 #include <dirent.h>
 #include <dlfcn.h>
@@ -36,7 +36,7 @@ static void begin(void) {
     for (how = SWAP; how > WELL && strncmp(kind, kinds[how], strlen(kinds[how])); how--) {}
     said = how == ERRNO || how == STAYS || how == LASTS ? atol(kind + 6) : 0;
     old = getenv("EACH_OLD") ? atol(getenv("EACH_OLD")) : 0;
-    if (how == SWAP) syscall(SYS_newfstatat, AT_FDCWD, getenv("EACH_FOLDER"), &folder, AT_SYMLINK_NOFOLLOW);
+    if (how == SWAP) syscall(SYS_newfstatat, AT_FDCWD, getenv("EACH_FOLDER"), &folder, 0);
     if (tell) telling = syscall(SYS_openat, AT_FDCWD, tell, O_WRONLY | O_CREAT | O_APPEND | O_CLOEXEC, 0600);
 }
 
@@ -61,7 +61,9 @@ static void end(void) { syscall(SYS_kill, syscall(SYS_getpid), SIGKILL); }
 static int meanwhile(void) {
     if (how == FIRST) return setenv("EACH_AT", "1000000000", 1), system(getenv("EACH_FIRST")), WELL;
     if (telling >= 0) syscall(SYS_write, telling, seen, strlen(seen));
-    return syscall(SYS_renameat2, AT_FDCWD, getenv("EACH_FOLDER"), AT_FDCWD, getenv("EACH_LINK"), 2 /* RENAME_EXCHANGE */), WELL;
+    const char *place = getenv("EACH_FOLDER"), *link = getenv("EACH_LINK");
+    if (syscall(SYS_renameat2, AT_FDCWD, place, AT_FDCWD, link, 2 /* RENAME_EXCHANGE */)) syscall(SYS_renameat2, AT_FDCWD, link, AT_FDCWD, place, 0);
+    return WELL;
 }
 
 /* What is to go wrong with this call. */
@@ -127,10 +129,12 @@ int statx(int fd, const char *path, int flags, unsigned mask, struct statx *to) 
     MADE(int, found);
 }
 
-/* Notes whether the folder that is exchanged is open now, up to the exchange. */
-static int opened(int fd) {
+/* Notes whether the folder that is exchanged is open now, or was missing when it was to be, up to the exchange. */
+static int opened(int fd, const char *path) {
     struct stat it;
-    int is_open = how == SWAP && made < at && fd >= 0 && !syscall(SYS_newfstatat, fd, "", &it, AT_EMPTY_PATH);
+    if (how != SWAP || made >= at) return fd;
+    if (fd < 0 && !folder.st_ino && strstr(path, strrchr(getenv("EACH_FOLDER"), '/'))) seen = "opened\n";
+    int is_open = fd >= 0 && !syscall(SYS_newfstatat, fd, "", &it, AT_EMPTY_PATH);
     if (is_open && it.st_ino == folder.st_ino && it.st_dev == folder.st_dev) seen = "opened\n";
     return fd;
 }
@@ -143,7 +147,7 @@ static int opened(int fd) {
         va_end(more);                                             \
         int wrong = due(#name, path, fd);                         \
         if (wrong == ERRNO) return -1;                            \
-        MADE(int, opened(REAL(name) words));                      \
+        MADE(int, opened(REAL(name) words, path));                \
     }
 
 OPENED(open, (const char *path, int flags, ...), (path, flags, mode), path, -1)

@@ -70,7 +70,8 @@ def words():
 
 
 def spots():
-    """The folders that become links: those that lead to one content, to one bucket, and `tmp`."""
+    """The folders that become links: the cache, those that lead to one content and to one bucket, and `tmp`."""
+    yield "c"
     for path in (f"c/{content_path(OLD)}", f"c/{bucket_path('over')}", "c/tmp/notes"):
         yield from map(str, list(pathlib.PurePath(path).parents)[-3::-1])
 

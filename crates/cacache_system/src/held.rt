@@ -34,7 +34,7 @@ pub(crate) struct Held<F> {
     pub(crate) path: String,
     /// A path that leads into it while it is open, with a `/` at the end.
     pub(crate) inside: String,
-    /// Whether a walk began here.
+    /// Whether it was opened by its path, and not in another.
     pub(crate) is_first: bool,
     /// What the system knows it by.
     pub(crate) node: Node,
@@ -114,11 +114,12 @@ pub(crate) fn joined(alloc: Global, first: &str, second: &str) -> Result<String,
     Ok(text)
 }
 
-/// What follows the folder's path in a path of something below it.
+/// What follows the folder's path in a path of something below it. Paths that don't begin with a `/` are below the empty one.
 pub(crate) fn rest_below<'a>(folder: &str, path: &'a str) -> Option<&'a str> {
     let rest = path.strip_prefix(folder)?;
     let name = rest.trim_start_matches('/');
-    if name.is_empty() || name.len() == rest.len() {
+    let is_joined = name.len() < rest.len() || folder.is_empty();
+    if name.is_empty() || !is_joined {
         None
     } else {
         Some(name)

@@ -2,11 +2,12 @@
 //!
 //! A walk lists a folder, then those below it, and may remove what it finds, append to it or put a file in its place.
 //! Meanwhile somebody who may write there can put a link in the place of a folder. So the folder at which such a walk
-//! begins is opened once, and each one below it in the one above. A call goes to `/proc/self/fd/N/name`, where `N` is the
-//! number of the open folder: that leads into it, whatever stands at its path by then. Walks that only look go by paths.
-use crate::held::{Held, Node, held_as, joined, leads, no_folder, open_path, rest_below};
+//! begins is opened once, and each one below it in the one above. If it is an area of a cache, the cache's folder and the
+//! other areas are opened first. A call goes to `/proc/self/fd/N/name`, where `N` is the number of the open folder: that
+//! leads into it, whatever stands at its path by then. Walks that only look go by paths.
+use crate::held::{Held, Node, held_as, joined, leads, no_folder, rest_below};
 use cacache_core::keeping::let_go;
-use cacache_core::paths::{CONTENT_AREA, INDEX_AREA};
+use cacache_core::paths::{CONTENT_AREA, INDEX_AREA, TEMP_AREA};
 use std::alloc::{AllocError, Global};
 use std::fs::{File, OpenFile};
 use std::io;
@@ -14,11 +15,14 @@ use std::io::ErrorKind;
 use std::os::fd::AsRawFd;
 use std::rt::Files;
 
-/// How many folders at which walks began are held at most. A call walks through three at most.
-const WALKS: usize = 4;
+/// How many folders that were opened by their paths are held at most: a cache's and its areas.
+const FIRST: usize = 4;
 
 /// How many folders below those are held at most. A cache has four levels.
 const BELOW: usize = 4;
+
+/// The folders in a cache's folder, by their names.
+const AREAS: [&str; 3] = [INDEX_AREA, CONTENT_AREA, TEMP_AREA];
 
 /// The folders that walks hold open.
 pub(crate) struct OpenFolders<R: Files> {
@@ -65,26 +69,6 @@ pub(crate) fn unless_missing(error: io::Error) -> io::Error {
     }
 }
 
-/// What the system knows the folder at the path by. None if the path ends in a `/`, so that a link is followed.
-fn folder_unless_led<R: Files>(rt: &R, path: &str) -> io::Result<Option<Node>> {
-    if path.ends_with('/') {
-        Ok(None)
-    } else {
-        Ok(Some(folder_at(rt, path)?))
-    }
-}
-
-/// Opens a folder by its path, and makes sure that it is the one that was named, if it was.
-fn open_named<R: Files>(
-    rt: &R,
-    alloc: Global,
-    folder: &str,
-    named: Option<Node>,
-) -> io::Result<(R::File, Node)> {
-    let asked = joined(alloc, folder, "/")?;
-    unless_other(File::open(rt, asked.as_str()), named)
-}
-
 /// What was opened, if it is what was named, and what the system knows it by.
 pub(crate) fn unless_other<F: OpenFile + Drop>(
     opened: io::Result<F>,
@@ -99,17 +83,16 @@ pub(crate) fn unless_other<F: OpenFile + Drop>(
     }
 }
 
-/// What comes before the name of the folder in its path, and the cache's other area, if a walk begins at one of the two.
-fn other_area(folder: &str) -> Option<(&str, &'static str)> {
-    let area = match folder.rsplit_once('/') {
-        Some((_, area)) => area,
+/// What comes before the name of the folder in its path, if that names an area of a cache.
+fn before_area(folder: &str) -> Option<&str> {
+    let name = match folder.rsplit_once('/') {
+        Some((_, name)) => name,
         None => folder,
     };
-    let before = folder.strip_suffix(area)?;
-    match area {
-        INDEX_AREA => Some((before, CONTENT_AREA)),
-        CONTENT_AREA => Some((before, INDEX_AREA)),
-        _ => None,
+    if AREAS.iter().any(|area| *area == name) {
+        folder.strip_suffix(name)
+    } else {
+        None
     }
 }
 
@@ -193,9 +176,10 @@ where
         reached
     }
 
-    /// Closes the first of the folders at which walks began, or of those below them, if there are too many for one more.
+    /// Closes the first of the folders that were opened by their paths, or of those below them, if there are too many for one
+    /// more.
     fn make_room(&mut self, is_first: bool) {
-        let most = if is_first { WALKS } else { BELOW };
+        let most = if is_first { FIRST } else { BELOW };
         let mut count = 0usize;
         let mut oldest = 0;
         for (at, held) in self.held.as_slice().iter().enumerate() {
@@ -211,26 +195,27 @@ where
         }
     }
 
-    /// Closes the folders below those at which walks began, but for those that lead to a folder.
+    /// Closes the folders below those that were opened by their paths, but for those that lead to a folder.
     fn release(&mut self, folder: &str) {
         self.held
             .retain(|held| held.is_first || leads(held.path.as_str(), folder));
     }
 
-    /// Opens the folder at the path by its name in the innermost that is held above it.
+    /// Opens a folder by its path. What was there by now is held as the folder at that path.
+    fn open(&self, rt: &R, there: &str, path: &str, is_first: bool) -> io::Result<Held<R::File>> {
+        let opened = unless_other(File::open(rt, there), None);
+        held_as(self.alloc, path, is_first, opened)
+    }
+
+    /// Opens the folder at the path by its name in the innermost that is held above it. It has to have that name while it is
+    /// open, when no other one is known by the same number. So no link is followed.
     fn enter(&mut self, rt: &R, path: &str) -> io::Result<()> {
         let Some(there) = self.near(path)? else {
             return Err(no_folder());
         };
-        let opened = open_named(rt, self.alloc, there.as_str(), None);
-        let held = held_as(self.alloc, path, false, opened)?;
-        self.hold_named(rt, held, there.as_str())
-    }
-
-    /// Holds a folder that was opened, if it has that name. No link is followed, and while the folder is open no other one
-    /// is known by the same number.
-    fn hold_named(&mut self, rt: &R, held: Held<R::File>, there: &str) -> io::Result<()> {
-        match folder_at(rt, there) {
+        let asked = joined(self.alloc, there.as_str(), "/")?;
+        let held = self.open(rt, asked.as_str(), path, false)?;
+        match folder_at(rt, there.as_str()) {
             Ok(named) if named.is_same(held.node) => self.push(held),
             Ok(_) => Err(no_folder()),
             Err(error) => Err(error),
@@ -281,79 +266,76 @@ where
         Ok((self.near(from)?, self.near(to)?))
     }
 
-    /// Opens a folder at which a walk begins, which is held from now on. A link is followed only if the path ends in a `/`.
+    /// Opens a folder by a path that ends in a `/`, and holds it from now on. A link there is followed, as reads do. Without
+    /// `/proc` no path leads into it.
     fn begin_at(&mut self, rt: &R, path: &str, folder: &str) -> io::Result<()> {
-        let named = folder_unless_led(rt, path)?;
-        let opened = open_named(rt, self.alloc, folder, named);
-        self.push(held_as(self.alloc, folder, true, opened)?)
+        let held = self.open(rt, path, folder, true)?;
+        match rt.metadata(held.inside.as_str()) {
+            Ok(_) => self.push(held),
+            Err(error) => Err(unless_missing(error)),
+        }
     }
 
-    /// Holds the folder of contents too, if a walk begins in the index beside it, and the other way round, so that no link
-    /// takes its place before the walk through that. One that can't be opened, such as a link, isn't held.
-    fn hold_other(&mut self, rt: &R, folder: &str) -> Result<(), AllocError> {
-        let Some((before, other)) = other_area(folder) else {
-            return Ok(());
-        };
-        let other = joined(self.alloc, before, other)?;
-        if !self.is_first(other.as_str()) {
-            let _unless_it_fails = self.begin_at(rt, other.as_str(), other.as_str());
+    /// Holds the folder of a cache and its areas, since a walk begins in one, so that no link takes the place of another before
+    /// the call comes there. An area that can't be opened isn't held: the call goes there from the cache's folder, and changes
+    /// nothing through a link.
+    fn hold_cache(&mut self, rt: &R, before: &str) -> io::Result<()> {
+        let path = if before.is_empty() { "./" } else { before };
+        self.begin_at(rt, path, before.trim_end_matches('/'))?;
+        for area in AREAS {
+            let folder = joined(self.alloc, before, area)?;
+            if let Some(there) = self.near(folder.as_str())? {
+                let path = joined(self.alloc, there.as_str(), "/")?;
+                let _unless_it_fails = self.begin_at(rt, path.as_str(), folder.as_str());
+            }
         }
         Ok(())
     }
 
-    /// Whether a walk began at the folder.
-    fn is_first(&self, folder: &str) -> bool {
+    /// The folder, if it was opened by its path.
+    fn first(&self, folder: &str) -> Option<&Held<R::File>> {
         self.held
             .as_slice()
             .iter()
-            .any(|held| held.is_first && held.path.as_str() == folder)
+            .find(|held| held.is_first && held.path.as_str() == folder)
     }
 
-    /// Whether a folder at which a walk began is still at its path. If not, its listing might lack what is there now.
+    /// Whether a folder that was opened by its path is still there. If not, its listing might lack what is there now.
     fn stays(&self, rt: &R, folder: &str) -> bool {
-        for held in self.held.as_slice() {
-            if held.is_first && held.path.as_str() == folder {
-                return match rt.metadata(folder) {
-                    Ok(found) => Node::of(&found).is_same(held.node),
-                    Err(_) => false,
-                };
-            }
-        }
-        true
-    }
-
-    /// Lists a folder at which a walk began. Without `/proc` it isn't held any more.
-    fn list_first(&mut self, rt: &R, folder: &str) -> io::Result<R::Dir> {
-        let mut listed = Err(no_folder());
-        for held in self.held.as_slice() {
-            if held.is_first && held.path.as_str() == folder {
-                listed = rt.open_dir(held.inside.as_str());
-            }
-        }
-        match listed {
-            Ok(listing) => Ok(listing),
-            Err(error) => {
-                self.leave(folder);
-                Err(unless_missing(error))
-            }
+        let Some(held) = self.first(folder) else {
+            return true;
+        };
+        match rt.metadata(folder) {
+            Ok(found) => Node::of(&found).is_same(held.node),
+            Err(_) => false,
         }
     }
 
-    /// Opens a folder to list it. Below a folder that is held no link is followed. Elsewhere a walk begins, which holds it.
+    /// Where to list a folder. None if no walk leads there.
+    fn inside(&mut self, rt: &R, folder: &str) -> io::Result<Option<String>> {
+        match self.first(folder) {
+            Some(held) => Ok(Some(held.inside.clone()?)),
+            None => self.within(rt, folder),
+        }
+    }
+
+    /// Opens a folder to list it. Below a folder that is held no link is followed. Elsewhere a walk begins, which holds it. It
+    /// stays open, so that no link that takes its place later is followed.
     pub(crate) fn list(&mut self, rt: &R, path: &str) -> io::Result<R::Dir> {
         let folder = path.trim_end_matches('/');
-        if self.is_first(folder) {
-            // It stays open, so that no link that took its place is followed.
-            if !self.stays(rt, folder) {
-                return Err(no_folder());
-            }
-        } else {
-            if let Some(there) = self.within(rt, folder)? {
-                return rt.open_dir(there.as_str());
-            }
-            self.hold_other(rt, folder)?;
-            self.begin_at(rt, path, folder)?;
+        if !self.stays(rt, folder) {
+            return Err(no_folder());
         }
-        self.list_first(rt, folder)
+        if let Some(there) = self.inside(rt, folder)? {
+            return rt.open_dir(there.as_str());
+        }
+        match before_area(folder) {
+            Some(before) => self.hold_cache(rt, before)?,
+            None => self.begin_at(rt, joined(self.alloc, folder, "/")?.as_str(), folder)?,
+        }
+        match self.inside(rt, folder)? {
+            Some(there) => rt.open_dir(there.as_str()),
+            None => Err(no_folder()),
+        }
     }
 }
