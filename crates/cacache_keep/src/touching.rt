@@ -61,8 +61,8 @@ fn check_bucket<S: Store>(alloc: Global, store: &mut S, cache: &str, key: &str) 
 /// If somebody else writes or removes the key between the lookup and the new entry, that one hides it.
 ///
 /// A line of the key's bucket with a right digest that this crate can't read is odd: it may be a newer entry of the key, which
-/// another reader finds. So a key whose bucket has such a line isn't touched: the call ends with an `IoError` of `Unsupported`,
-/// which names the bucket, and nothing changes.
+/// another reader finds. So a key that has an entry isn't touched if its bucket has such a line: the call ends with an `IoError`
+/// of `Unsupported`, which names the bucket, and nothing changes.
 ///
 /// Errors are those of `metadata_sync`, that one, and an `IoError` if the bucket couldn't be read again, with which nothing
 /// changes; and then those of `index::insert`, with which the key still leads where it led unless the whole line was appended.
