@@ -319,8 +319,8 @@ where
         }
     }
 
-    /// Opens a folder to list it. Below a folder that is held no link is followed. Elsewhere a walk begins, which holds it. It
-    /// stays open, so that no link that takes its place later is followed.
+    /// Opens a folder to list it. Below a folder that is held no link is followed. Elsewhere a walk begins, which holds it, and
+    /// follows a link to an area or one with a `/` after it. It stays open, so that no later link is followed.
     pub(crate) fn list(&mut self, rt: &R, path: &str) -> io::Result<R::Dir> {
         let folder = path.trim_end_matches('/');
         if !self.stays(rt, folder) {
@@ -331,7 +331,12 @@ where
         }
         match before_area(folder) {
             Some(before) => self.hold_cache(rt, before)?,
-            None => self.begin_at(rt, joined(self.alloc, folder, "/")?.as_str(), folder)?,
+            None => {
+                if !path.ends_with('/') {
+                    let _no_link = folder_at(rt, folder)?;
+                }
+                self.begin_at(rt, joined(self.alloc, folder, "/")?.as_str(), folder)?;
+            }
         }
         match self.inside(rt, folder)? {
             Some(there) => rt.open_dir(there.as_str()),
